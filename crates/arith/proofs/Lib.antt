@@ -1,0 +1,4 @@
+-- Laws of `arith`.
+pub mod Levels
+pub mod Product
+pub mod Signed

@@ -1,0 +1,4 @@
+-- The definitions that the contracts of `arith` cite.
+pub mod Level
+pub mod Saturate
+pub mod Wrap
