@@ -1,0 +1,39 @@
+-- Laws of refusals: a table begun by another, and the answer under its number.
+use mathlib.Core.Path.{_≡_, refl}
+use mathlib.Core.Bool.{Bool, true, false, false≢true}
+use mathlib.Core.List.{List, [], _∷_, _++_}
+use Prim.Native.Nat.{ℕ, zero, suc}
+use native.Mathlib.Omega.{arith}
+use Rattle.stand.specs.Refusal.{Answer, Rule, _⇒_, answer, first, gives, refused}
+
+-- a number that is not 0 is the answer
+pub turned : {A : Type 0} (n : ℕ) (a : A) → (n ≡ 0 → ⊥) → refused n ≡ answer n a
+unfolding answer
+turned zero a h = absurd (h refl)
+turned (suc n) a h = refl
+
+pub accepted : {A : Type 0} {n : ℕ} (a : A) → n ≡ 0 → gives a ≡ answer n a
+unfolding answer
+accepted a e = rw e
+
+-- where the first part of a table applies, the whole gives its number
+pub first-part : (rs qs : List Rule) → (first rs ≡ 0 → ⊥) → first (rs ++ qs) ≡ first rs
+unfolding first
+first-part [] qs h = absurd (h refl)
+first-part ((true ⇒ n) ∷ rs) qs h = refl
+first-part ((false ⇒ n) ∷ rs) qs h = first-part rs qs h
+
+-- a table with no number 0
+unfoldable pub numbered : List Rule → Bool
+numbered [] = true
+numbered ((b ⇒ zero) ∷ rs) = false
+numbered ((b ⇒ suc n) ∷ rs) = numbered rs
+
+-- where it does not, the rest decides
+pub first-rest : (rs qs : List Rule) → numbered rs ≡ true → first rs ≡ 0 → first (rs ++ qs) ≡ first qs
+unfolding first numbered
+first-rest [] qs m h = refl
+first-rest ((true ⇒ zero) ∷ rs) qs m h = absurd (false≢true m)
+first-rest ((true ⇒ suc n) ∷ rs) qs m h = absurd (omega arith)
+first-rest ((false ⇒ zero) ∷ rs) qs m h = absurd (false≢true m)
+first-rest ((false ⇒ suc n) ∷ rs) qs m h = first-rest rs qs m h
