@@ -2,3 +2,4 @@
 pub mod Levels
 pub mod Product
 pub mod Signed
+pub mod Xor

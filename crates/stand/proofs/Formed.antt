@@ -20,7 +20,8 @@ use Rattle.stand.specs.declared.volume.shape.Place.the-variants as P
 use Rattle.stand.specs.declared.volume.shape.Point.{Point}
 use Rattle.stand.specs.declared.volume.shape.Spot.the-variants as S
 use Rattle.stand.proofs.Levels.{axis-law, on-distance, on-high, on-low}
-use Rattle.stand.proofs.Shape.{both, chunks-some, formed-counts, formed-opens, inside-within, sections-few, sections-some, slot-from, stored}
+use Rattle.stand.proofs.Shape.{chunks-some, formed-counts, formed-opens, inside-within, sections-few, sections-some, stored}
+use Rattle.stand.proofs.Tests.{both}
 
 -- ---- a header, by levels
 

@@ -1,6 +1,10 @@
 -- Laws of `stand`.
 pub mod Formed
 pub mod Levels
+pub mod Opening
 pub mod Refusal
 pub mod Shape
 pub mod Sides
+pub mod Sound
+pub mod Storage
+pub mod Tests

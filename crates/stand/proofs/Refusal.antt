@@ -16,6 +16,17 @@ pub accepted : {A : Type 0} {n : ℕ} (a : A) → n ≡ 0 → gives a ≡ answer
 unfolding answer
 accepted a e = rw e
 
+-- what an answer says of its number and value
+pub refused-by : {A : Type 0} (m n : ℕ) (a : A) → refused n ≡ answer m a → (m ≡ 0 → ⊥) × (n ≡ m)
+unfolding answer
+refused-by zero n a e = let z : _≡_ {A = ℕ} 0 1 = cc in absurd (omega arith)
+refused-by (suc m) n a e = ((λ h. omega arith), (cc))
+
+pub given-by : {A : Type 0} (m : ℕ) (a v : A) → gives v ≡ answer m a → (m ≡ 0) × (v ≡ a)
+unfolding answer
+given-by zero a v e = (refl, (cc))
+given-by (suc m) a v e = let z : _≡_ {A = ℕ} 0 1 = cc in absurd (omega arith)
+
 -- where the first part of a table applies, the whole gives its number
 pub first-part : (rs qs : List Rule) → (first rs ≡ 0 → ⊥) → first (rs ++ qs) ≡ first rs
 unfolding first

@@ -15,12 +15,7 @@ use Rattle.stand.specs.Shape.{Shape, axisGood, cellFrom, chunkOf, chunks
 use Rattle.stand.specs.declared.Cell.{Cell}
 use Rattle.stand.specs.declared.volume.Volume.{Volume}
 use Rattle.stand.specs.declared.volume.shape.Point.{Point}
-
--- ---- tests joined by &&
-
-pub both : (a b : Bool) → (a && b) ≡ true → (a ≡ true) × (b ≡ true)
-both true b e = (refl, e)
-both false b e = absurd (false≢true e)
+use Rattle.stand.proofs.Tests.{both}
 
 -- ---- a shape that opening gives
 

@@ -1,6 +1,12 @@
 -- The definitions that the contracts of `stand` cite.
 pub mod Answer
 pub mod Cells
+pub mod Edit
+pub mod Fill
+pub mod Hash
+pub mod Opening
 pub mod Refusal
 pub mod Shape
 pub mod Sides
+pub mod Sound
+pub mod Storage

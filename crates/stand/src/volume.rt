@@ -2,7 +2,9 @@
 use crate::Cell;
 
 pub mod answer;
+pub mod opening;
 pub mod shape;
+pub mod storage;
 
 // Cells along one edge of a chunk. A chunk is document 01's section.
 pub const CHUNK: u64 = 16;
