@@ -1,4 +1,5 @@
 -- Laws of `stand`.
+pub mod Edit
 pub mod Formed
 pub mod Levels
 pub mod Opening

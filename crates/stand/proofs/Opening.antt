@@ -20,7 +20,7 @@ use Rattle.stand.specs.declared.volume.Volume.{Volume}
 use Rattle.stand.specs.declared.volume.shape.Point.{Point}
 use Rattle.stand.proofs.Levels.{last-law}
 use Rattle.stand.proofs.Refusal.{accepted, first-part, first-rest, given-by, numbered, refused-by}
-use Rattle.stand.proofs.Storage.{fits}
+use Rattle.stand.proofs.Storage.{fits-all}
 use Rattle.stand.proofs.Tests.{both}
 
 -- ---- sizes
@@ -52,7 +52,7 @@ volume-formed g generation solid e = e
 pub fresh-fits : (n : ℕ) → storageFits n (lengthsOf (freshStorage n)) ≡ true
 unfolding freshStorage
 fresh-fits n =
-    fits n _
+    fits-all n _
     (record {
       cells = length-replicate (n * 4096) 0;
       hashes = length-replicate n 0;

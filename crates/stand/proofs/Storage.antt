@@ -45,9 +45,9 @@ pub record Fitting (n : ℕ) (l : Lengths) : Type 0 where
   pub log : l .log ≡ n
   pub last : l .last ≡ n
 
-pub fitting : (n : ℕ) (l : Lengths) → storageFits n l ≡ true → Fitting n l
+pub fits-apart : (n : ℕ) (l : Lengths) → storageFits n l ≡ true → Fitting n l
 unfolding storageFits
-fitting n l e =
+fits-apart n l e =
     let p = both _ _ e in
     let q = both _ _ (p .1) in
     let r = both _ _ (q .1) in
@@ -65,8 +65,8 @@ pub fits-last : (n : ℕ) (l : Lengths) → l .cells ≡ n * 4096 → l .hashes 
 unfolding storageFits
 fits-last n l a b c d = rw (eq-eqb _ _ a, eq-eqb _ _ b, eq-eqb _ _ c, eq-eqb _ _ d)
 
-pub fits : (n : ℕ) (l : Lengths) → Fitting n l → storageFits n l ≡ true
-fits n l f = sym (fits-last n l (f .cells) (f .hashes) (f .versions) (f .log)) ∙ eq-eqb _ _ (f .last)
+pub fits-all : (n : ℕ) (l : Lengths) → Fitting n l → storageFits n l ≡ true
+fits-all n l f = sym (fits-last n l (f .cells) (f .hashes) (f .versions) (f .log)) ∙ eq-eqb _ _ (f .last)
 
 -- ---- storage that fits is fresh once each list is zeroed
 

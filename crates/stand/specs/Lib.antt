@@ -5,6 +5,7 @@ pub mod Edit
 pub mod Fill
 pub mod Hash
 pub mod Opening
+pub mod Read
 pub mod Refusal
 pub mod Shape
 pub mod Sides

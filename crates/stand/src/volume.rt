@@ -2,6 +2,8 @@
 use crate::Cell;
 
 pub mod answer;
+pub mod edit;
+pub mod hash;
 pub mod opening;
 pub mod shape;
 pub mod storage;

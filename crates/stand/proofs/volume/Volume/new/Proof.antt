@@ -7,7 +7,7 @@ use Rattle.stand.specs.Opening.{headerCall}
 use Rattle.stand.specs.Refusal.{gives}
 use Rattle.stand.specs.Storage.{Storage, storageOf}
 use Rattle.stand.proofs.Opening.{given-formed, open-done, open-short, open-turned}
-use Rattle.stand.proofs.Storage.{fitting, zeroed-fresh}
+use Rattle.stand.proofs.Storage.{fits-apart, zeroed-fresh}
 use borrow.Author.Needs.{needs}
 use Rattle.stand.proofs.volume.Volume.new.Statement.{statement}
 use Rattle.stand.proofs.volume.Volume.new.Tie as tie
@@ -86,7 +86,7 @@ returns-3 c =
     let s = S (t .before .before .before .before .before .before .before .before .before .before) in
     let f = sym (test .before .lengths-fit .ensures) ∙ not-false _ (test .if1 .left) in
     open-done _ _ (given (t .before .before)) s (t .chunk-total .ensures .0) f
-    (zeroed-fresh _ s (fitting _ _ f)
+    (zeroed-fresh _ s (fits-apart _ _ f)
     (cells .zero-u16 .ensures)
     (hashes .zero-u64 .ensures)
     (versions .zero-u32 .ensures)

@@ -1,5 +1,5 @@
 -- `stand::volume::storage::lengths_fit` meets its contract.
-use Rattle.stand.proofs.Storage.{fits-last, fitting}
+use Rattle.stand.proofs.Storage.{fits-last, fits-apart}
 use Rattle.stand.proofs.Tests.{refuted}
 use borrow.Author.Needs.{needs}
 use Rattle.stand.proofs.volume.storage.lengths_fit.Statement.{statement}
@@ -9,16 +9,16 @@ mul-if1 : tie.Need-mul-if1
 mul-if1 c = search needs
 
 returns : tie.Need-returns
-returns c = refuted _ (λ h. c .if1 .taken (fitting _ _ h .cells))
+returns c = refuted _ (λ h. c .if1 .taken (fits-apart _ _ h .cells))
 
 returns-2 : tie.Need-returns-2
-returns-2 c = refuted _ (λ h. c .if2 .taken (fitting _ _ h .hashes))
+returns-2 c = refuted _ (λ h. c .if2 .taken (fits-apart _ _ h .hashes))
 
 returns-3 : tie.Need-returns-3
-returns-3 c = refuted _ (λ h. c .if3 .taken (fitting _ _ h .versions))
+returns-3 c = refuted _ (λ h. c .if3 .taken (fits-apart _ _ h .versions))
 
 returns-4 : tie.Need-returns-4
-returns-4 c = refuted _ (λ h. c .if4 .taken (fitting _ _ h .log))
+returns-4 c = refuted _ (λ h. c .if4 .taken (fits-apart _ _ h .log))
 
 returns-5 : tie.Need-returns-5
 returns-5 c =
