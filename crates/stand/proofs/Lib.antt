@@ -1,6 +1,7 @@
 -- Laws of `stand`.
 pub mod Edit
 pub mod Formed
+pub mod Kept
 pub mod Levels
 pub mod Opening
 pub mod Refusal
