@@ -1,13 +1,13 @@
 -- Signed 32-bit numbers, and what the machine reads back from their bits.
-use mathlib.Core.Path.{_≡_, refl, sym, ap, _∙_, subst}
+use mathlib.Core.Path.{_≡_, ap, _∙_}
 use mathlib.Core.Bool.{Bool, true, false, cond}
-use Prim.Native.Nat.{ℕ, zero, suc, _+_, _-_, _≤_, _<_, _^_}
+use Prim.Native.Nat.{ℕ, suc, _+_, _-_, _≤_, _<_}
 use native.Mathlib.Nat.{add-comm}
 use native.Mathlib.Omega.{arith}
-use borrow.Author.Tests.{lt-ltb, le-ltb, le-leb, lt-leb, ltb-true, ltb-false, leb-true, leb-false}
-use lib.IntN.{ℤ, pos, negsuc, _+ℤ_, _-ℤ_, negℤ, subℕ}
-use lib.Dec.{leb, ltb}
-use lib.Signed.{mag, ltZ, leZ}
+use borrow.Author.Tests.{lt-ltb, le-ltb, ltb-false}
+use lib.IntN.{ℤ, pos, negsuc, _+ℤ_, subℕ}
+use lib.Dec.{ltb}
+use lib.Signed.{mag, ltZ}
 use mir.Syntax.{w32, w64}
 use mir.Val.{SFits, toZ, ofZ}
 use mir.ValLaws.{toZ-ofZ}

@@ -1,7 +1,6 @@
 -- Laws of XOR that the library leaves: it associates, and undoes itself.
 use mathlib.Core.Path.{_≡_, refl, sym, ap, ap₂, _∙_}
 use Prim.Native.Nat.{ℕ, zero, suc, _+_, _*_, _/_, _%_, _<_}
-use native.Mathlib.Nat.{mod-lt}
 use native.Mathlib.Omega.{arith}
 use lib.Arith.{bin-ind, digits-div, digits-mod}
 use lib.Bits.{bitXor, differ, xor-comm, xor-self, xor-step, xor-zero-r}

@@ -1,9 +1,9 @@
 -- A header's test, its counts and a cell's place, by the code's steps.
 use mathlib.Core.Path.{_≡_, refl, sym, ap, _∙_, subst}
-use mathlib.Core.Bool.{Bool, true, false, cond, _&&_, false≢true}
+use mathlib.Core.Bool.{Bool, true, false, _&&_}
 use mathlib.Core.Logic.{⊎-elim}
-use Prim.Native.Nat.{ℕ, zero, suc, _+_, _-_, _*_, _/_, _%_, _≤_, _<_, min}
-use native.Mathlib.Nat.{mod-le, div-le-self, mul-zero, zero-mul, le-mul-of-pos-right, mul-assoc, mul-comm, mul-left-comm, eq-zero-or-pos, le-trans, lt-of-le-of-lt, lt-of-lt-of-le}
+use Prim.Native.Nat.{ℕ, zero, suc, _+_, _-_, _*_, _/_, _%_, _≤_, _<_}
+use native.Mathlib.Nat.{mod-le, div-le-self, mul-zero, zero-mul, le-mul-of-pos-right, mul-assoc, mul-comm, mul-left-comm, eq-zero-or-pos, le-trans, lt-of-lt-of-le}
 use native.Mathlib.Omega.{arith}
 use borrow.Author.Tests.{lt-ltb, le-ltb, le-leb, lt-leb, leb-true, leb-false, eqb-true}
 use lib.Arith.{digits-lt}
@@ -12,7 +12,7 @@ use lib.IntN.{ℤ, _-ℤ_, natAbs}
 use mir.Syntax.{w32}
 use mir.Val.{SFits}
 use Rattle.arith.specs.Level.{countOf, levelOf}
-use Rattle.stand.specs.Shape.{Ranged, Shape, Stored, alongAt, axisAt, axisGood, chunksOn, clampAt, counted, countsOf, distance, good, inside, insideOn, levelsOf, maxChunks, opens, placeOf, pointOf, product, sections, shapeOf, slot, slotAt, spotOf, wellFormed}
+use Rattle.stand.specs.Shape.{Ranged, Shape, Stored, alongAt, axisAt, axisGood, chunksOn, counted, countsOf, distance, good, inside, insideOn, levelsOf, maxChunks, opens, placeOf, product, sections, shapeOf, slot, slotAt, spotOf, wellFormed}
 use Rattle.stand.specs.declared.Cell.{Cell}
 use Rattle.stand.specs.declared.volume.Volume.{Volume}
 use Rattle.stand.specs.declared.volume.shape.Along.the-variants as A

@@ -1,20 +1,19 @@
 -- Opening gives a sound stand, and changes keep it sound.
 use mathlib.Core.Path.{_≡_, refl, sym, ap, _∙_}
 use mathlib.Core.Bool.{Bool, true, false}
-use mathlib.Core.List.{List}
-use Prim.Native.Nat.{ℕ, zero, suc, _+_, _*_, _/_, _%_, _^_, _≤_, _<_}
+use Prim.Native.Nat.{ℕ, zero, suc, _+_, _*_, _/_, _%_, _^_, _<_}
 use native.Mathlib.Omega.{arith}
 use borrow.Author.Tests.{eqb-true, eqb-false}
 use lib.Dec.{eqb}
-use lib.ListN.{length, getD, replicate, set, length-set, length-replicate}
+use lib.ListN.{length, getD, replicate, set, length-set}
 use lib.Seq.{getD-set-same, getD-set-other}
-use Rattle.stand.specs.Edit.{Edited, advanced, changed, edited, editedOf, fitting, hashAfter, look, put, setCall, setDef, setRefusal, toggled}
+use Rattle.stand.specs.Edit.{Edited, advanced, changed, fitting, hashAfter, look, put, setCall, setDef, setRefusal, toggled}
 use Rattle.stand.specs.Shape.{Shape, inside, opens, sections, shapeOf, slot, wellFormed}
 use Rattle.stand.specs.Sound.{Sound, occupied, termsOf}
 use Rattle.stand.specs.Storage.{Outcome, State, freshState, freshStorage, shape, volumeOf}
 use Rattle.stand.specs.declared.Cell.{Cell}
 use Rattle.stand.proofs.Edit.{by-edited, by-put, changed-fitting, changed-formed, changed-shape, fitting-lengths, settable}
-use Rattle.stand.proofs.Opening.{fresh-fits, volume-formed, volume-shape}
+use Rattle.stand.proofs.Opening.{fresh-fits, volume-formed}
 use Rattle.stand.proofs.Shape.{formed-opens, slot-lt}
 use Rattle.stand.proofs.Sound.{occupied-change, solid-change, terms-change, terms-keep}
 

@@ -1,13 +1,12 @@
 -- Tests over ℤ as tests of levels: last cells, distances, clamping.
 use mathlib.Core.Path.{_≡_, refl, sym, ap, _∙_}
-use mathlib.Core.Bool.{Bool, true, false, cond, _&&_}
-use Prim.Native.Nat.{ℕ, zero, suc, _+_, _-_, _≤_, _<_, min, max}
-use native.Mathlib.Nat.{min-eq-left, min-eq-right, max-eq-left, max-eq-right}
+use mathlib.Core.Bool.{Bool, true, false, cond}
+use Prim.Native.Nat.{ℕ, zero, suc, _+_, _-_, _≤_, _<_, min}
 use native.Mathlib.Omega.{arith}
-use borrow.Author.Tests.{lt-ltb, le-ltb, le-leb, lt-leb, ltb-true, ltb-false, leb-true, leb-false}
+use borrow.Author.Tests.{le-ltb, le-leb, lt-leb, ltb-true, ltb-false, leb-true, leb-false}
 use lib.Dec.{leb, ltb, leb·zero}
 use lib.IntN.{ℤ, pos, negsuc, _+ℤ_, _-ℤ_, subℕ, natAbs}
-use lib.Signed.{mag, ltZ, leZ}
+use lib.Signed.{ltZ, leZ}
 use mir.Syntax.{w32}
 use mir.Val.{SFits}
 use Rattle.arith.proofs.Signed.{sub-ge, sub-lt}

@@ -7,6 +7,7 @@ pub mod Opening
 pub mod Refusal
 pub mod Shape
 pub mod Sides
+pub mod Slots
 pub mod Sound
 pub mod Storage
 pub mod Tests

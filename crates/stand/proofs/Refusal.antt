@@ -4,7 +4,7 @@ use mathlib.Core.Bool.{Bool, true, false, false≢true}
 use mathlib.Core.List.{List, [], _∷_, _++_}
 use Prim.Native.Nat.{ℕ, zero, suc}
 use native.Mathlib.Omega.{arith}
-use Rattle.stand.specs.Refusal.{Answer, Rule, _⇒_, answer, first, gives, refused}
+use Rattle.stand.specs.Refusal.{Rule, _⇒_, answer, first, gives, refused}
 
 -- a number that is not 0 is the answer
 pub turned : {A : Type 0} (n : ℕ) (a : A) → (n ≡ 0 → ⊥) → refused n ≡ answer n a

@@ -1,15 +1,14 @@
 -- Laws of shapes and places, by numbers: sections, slots, and cells inside.
 use mathlib.Core.Path.{_≡_, refl, sym, ap, _∙_}
-use mathlib.Core.Bool.{Bool, true, false, _&&_, false≢true}
-use Prim.Native.Nat.{ℕ, zero, suc, _+_, _-_, _*_, _/_, _%_, _≤_, _<_}
+use mathlib.Core.Bool.{true, _&&_, false≢true}
+use Prim.Native.Nat.{ℕ, _+_, _-_, _*_, _/_, _%_, _≤_, _<_}
 use native.Mathlib.Nat.{mul-assoc, mul-comm, mul-left-comm, mul-le-mul}
 use native.Mathlib.Omega.{arith}
 use borrow.Author.Tests.{ltb-true, leb-true, eqb-true, lt-ltb}
 use lib.Arith.{digits-lt, digits-div, digits-mod}
 use lib.IntN.{ℤ, pos, negsuc, _+ℤ_, _-ℤ_, natAbs, +ℤ-comm, +ℤ-negℤ-cancel, -ℤ-+ℤ-cancel}
-use lib.Dec.{leb, ltb, eqb, leb·zero}
+use lib.Dec.{leb, ltb, leb·zero}
 use lib.Signed.{leZ, ltZ}
-use Rattle.arith.specs.Level.{countOf}
 use Rattle.stand.specs.Cells.{cellOf}
 use Rattle.stand.specs.Shape.{Shape, axisGood, cellFrom, chunkOf, chunksIn, chunksOn, counted, countsOf, distance, good, inside, insideOn, lastFits, maxChunks, opens, over, pointOf, product, rest, sectionAt, sections, shapeOf, slot, slotAt, wellFormed, withinAt, Stored}
 use Rattle.stand.specs.declared.Cell.{Cell}

@@ -1,14 +1,14 @@
 -- Setting a cell: document 01, 'The stand' and refusals 3 to 6.
-use Prim.Native.Nat.{ℕ, zero, suc, _+_, _*_, _-_, _/_, _%_, _^_, _<_, _≤_}
+use Prim.Native.Nat.{ℕ, zero, suc, _+_, _-_, _/_, _%_, _^_, _<_, _≤_}
 use mathlib.Core.Path.{_≡_}
-use mathlib.Core.Bool.{Bool, true, false, cond, _&&_, not}
+use mathlib.Core.Bool.{Bool, cond, _&&_, not}
 use mathlib.Core.List.{List, [], _∷_}
 use lib.Dec.{eqb}
 use lib.Bits.{bitXor}
 use lib.ListN.{length, getD, set}
 use Rattle.stand.specs.Cells.{isEmpty}
-use Rattle.stand.specs.Refusal.{Answer, _⇒_, first, gives, refused}
-use Rattle.stand.specs.Shape.{Shape, inside, maxChunks, sections, shapeOf, slot, wellFormed}
+use Rattle.stand.specs.Refusal.{_⇒_, first, gives, refused}
+use Rattle.stand.specs.Shape.{Shape, inside, maxChunks, sections, slot, wellFormed}
 use Rattle.stand.specs.Storage.{Outcome, State, lengthsOf, outcomeOf, shape, storage, storageFits}
 use Rattle.stand.specs.Hash.{termOf}
 use Rattle.stand.specs.declared.Cell.{Cell}

@@ -1,13 +1,13 @@
 -- The calls that only read: document 01, 'The stand' and refusals 3, 4, 5 and 7.
-use Prim.Native.Nat.{ℕ, zero, suc, _+_, _-_}
-use mathlib.Core.Bool.{Bool, cond, _&&_, not}
+use Prim.Native.Nat.{ℕ, zero, suc, _+_}
+use mathlib.Core.Bool.{Bool, _&&_, not}
 use mathlib.Core.List.{List, [], _∷_, _++_}
-use lib.Dec.{leb, ltb}
+use lib.Dec.{leb}
 use lib.ListN.{length, getD}
 use Rattle.stand.specs.Cells.{isEmpty}
 use Rattle.stand.specs.Edit.{look}
 use Rattle.stand.specs.Refusal.{Answer, _⇒_, answer, first, headerRules, listRules}
-use Rattle.stand.specs.Shape.{Shape, cellAt, cellFrom, chunkOf, corner, counted, inside, pointOf, sections, shapeOf}
+use Rattle.stand.specs.Shape.{cellFrom, chunkOf, corner, counted, inside, sections, shapeOf}
 use Rattle.stand.specs.Hash.{digestOf}
 use Rattle.stand.specs.declared.Cell.{Cell}
 use Rattle.stand.specs.declared.volume.Volume.{Volume}

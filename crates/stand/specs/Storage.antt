@@ -1,13 +1,12 @@
 -- What a stand holds: document 01, 'The stand', header and storage.
-use Prim.Native.Nat.{ℕ, _+_, _*_, _-_, _/_, _%_, _^_, _<_, _≤_}
-use mathlib.Core.Path.{_≡_}
-use mathlib.Core.Bool.{Bool, _&&_, not}
+use Prim.Native.Nat.{ℕ, _*_}
+use mathlib.Core.Bool.{Bool, _&&_}
 use mathlib.Core.List.{List}
 use lib.Dec.{eqb}
 use lib.IntN.{pos}
 use lib.ListN.{length, replicate}
-use Rattle.stand.specs.Refusal.{Answer, gives, refused}
-use Rattle.stand.specs.Shape.{Shape, counted, sections, shapeOf, wellFormed}
+use Rattle.stand.specs.Refusal.{Answer}
+use Rattle.stand.specs.Shape.{Shape, counted, sections, shapeOf}
 use Rattle.stand.specs.declared.volume.Extent.{Extent}
 use Rattle.stand.specs.declared.volume.Volume.{Volume}
 use Rattle.stand.specs.declared.volume.shape.Point.{Point}

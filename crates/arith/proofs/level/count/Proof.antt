@@ -4,19 +4,13 @@ use Rattle.arith.proofs.Levels.{read, count-low, count-high}
 use borrow.Author.Needs.{needs}
 use Rattle.arith.proofs.level.count.Statement.{statement}
 use Rattle.arith.proofs.level.count.Tie as tie
-use Rattle.arith.proofs.level.count.Reads as reads
-use Rattle.arith.proofs.level.count.Lts as lts
-use Rattle.arith.proofs.level.level.Reads as level-reads
 
--- src/level.rt:17:9
 level-requires : tie.Need-level-requires
 level-requires c κs = search needs
 
--- src/level.rt:19:9
 returns : tie.Need-returns
 returns c = let s = c .before .before in (count-low (s .args .x) (read _ (s .fits .x) (c .before .level .ensures .0)) (c .if1 .taken), omega arith)
 
--- src/level.rt:14:1
 returns-2 : tie.Need-returns-2
 returns-2 c = let s = c .before .before in (count-high (s .args .x) (read _ (s .fits .x) (c .before .level .ensures .0)) (c .if1 .left), omega arith)
 
