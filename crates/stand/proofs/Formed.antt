@@ -147,7 +147,7 @@ module _ (g : Shape) (c : Cell) where
 
 -- ---- a place
 
-spot-none : (g : Shape) (c : Cell) → spotOf g c ≡ S.Outside → inside g c ≡ false
+pub spot-none : (g : Shape) (c : Cell) → spotOf g c ≡ S.Outside → inside g c ≡ false
 unfolding spotOf
 spot-none g c e = by (inside g c) refl
   where
@@ -155,7 +155,7 @@ spot-none g c e = by (inside g c) refl
     by true p = absurd (let z : _≡_ {A = ℕ} 0 1 = cc in omega arith)
     by false p = refl
 
-spot-some : (g : Shape) (c : Cell) (d : Point) → spotOf g c ≡ S.At d → (inside g c ≡ true) × (distance g c ≡ d)
+pub spot-some : (g : Shape) (c : Cell) (d : Point) → spotOf g c ≡ S.At d → (inside g c ≡ true) × (distance g c ≡ d)
 unfolding spotOf
 spot-some g c d e = by (inside g c) refl
   where

@@ -4,6 +4,7 @@ pub mod Formed
 pub mod Kept
 pub mod Levels
 pub mod Opening
+pub mod Read
 pub mod Refusal
 pub mod Shape
 pub mod Sides

@@ -5,6 +5,7 @@ pub mod answer;
 pub mod edit;
 pub mod hash;
 pub mod opening;
+pub mod read;
 pub mod shape;
 pub mod storage;
 
