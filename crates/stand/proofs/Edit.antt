@@ -16,7 +16,7 @@ use Rattle.stand.specs.Storage.{Outcome, State, lengthsOf, outcomeOf, sh
 use Rattle.stand.specs.declared.Cell.{Cell}
 use Rattle.stand.specs.declared.volume.shape.Place.the-variants as P
 use Rattle.stand.proofs.Formed.{placed-at, placed-out}
-use Rattle.stand.proofs.Shape.{formed-opens, sections-few, sections-some, slot-lt}
+use Rattle.stand.proofs.Shape.{formed-opens, sections-few, sections-some, slot-inj, slot-lt}
 use Rattle.stand.proofs.Storage.{Fitting, fits-apart}
 
 -- ---- storage that fits
@@ -135,6 +135,18 @@ module _ (s : State) (c : Cell) (v : ℕ) where
   pub set-fitting : fitting (setDef s c v .state) ≡ fitting s
   set-fitting = set-keeps fitting (λ i. changed-fitting s i v)
 
+  -- read after a set, and elsewhere
+  module _ (ok : wellFormed (s .volume) ≡ true) (at : inside (shape s) c ≡ true) where
+    pub set-same : fitting s ≡ true → look (shape s) (setDef s c v .state .cells) c ≡ v
+    unfolding setDef look
+    set-same fit = put-read s (slot (shape s) c) v fit (slot-lt (shape s) c (formed-opens (s .volume) ok) at)
+
+    pub set-other : (d : Cell) → inside (shape s) d ≡ true → d ≢ c → look (shape s) (setDef s c v .state .cells) d ≡ look (shape s) (s .cells) d
+    unfolding setDef look
+    set-other d h n =
+        put-other s (slot (shape s) c) v (slot (shape s) d)
+        (λ e. n (slot-inj (shape s) d c (formed-opens (s .volume) ok) h at e))
+
 -- ---- what a set comes to, one law for each return of the code
 
 module _ (s : State) (c : Cell) (v : ℕ) where
@@ -177,6 +189,7 @@ unfolding edited
 by-edited Q zero s e n y = y refl
 by-edited Q (suc k) s e n y = n k refl
 
+-- a table that gives no number begins with a test that fails
 pub passes : (b : Bool) (n : ℕ) (rs : List Rule) → first ((b ⇒ suc n) ∷ rs) ≡ 0 → (b ≡ false) × (first rs ≡ 0)
 unfolding first
 passes true n rs e = absurd (omega arith)
