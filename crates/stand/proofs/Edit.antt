@@ -1,7 +1,6 @@
 -- Laws of setting a cell: where a change is safe, what it keeps, and what a set comes to by its tests.
 use mathlib.Core.Logic.{_≢_}
 use mathlib.Core.Path.{_≡_, refl, sym, _∙_}
-use mathlib.Core.List.{List, _∷_}
 use mathlib.Core.Bool.{Bool, true, false, cond, and-false, false≢true}
 use Prim.Native.Nat.{ℕ, zero, suc, _+_, _*_, _≤_, _<_}
 use native.Mathlib.Omega.{arith}
@@ -10,12 +9,13 @@ use lib.Dec.{eqb}
 use lib.ListN.{length, getD, length-set}
 use lib.Seq.{getD-set-same, getD-set-other}
 use Rattle.stand.specs.Edit.{Edited, Storable, advanced, changed, edited, editedOf, fitting, lastGeneration, look, put, setCall, setDef, setRefusal}
-use Rattle.stand.specs.Refusal.{Rule, _⇒_, first, gives, refused}
+use Rattle.stand.specs.Refusal.{first, gives, refused}
 use Rattle.stand.specs.Shape.{Shape, inside, placeOf, sections, shapeOf, slot, wellFormed}
 use Rattle.stand.specs.Storage.{Outcome, State, lengthsOf, outcomeOf, shape, storage}
 use Rattle.stand.specs.declared.Cell.{Cell}
 use Rattle.stand.specs.declared.volume.shape.Place.the-variants as P
 use Rattle.stand.proofs.Formed.{placed-at, placed-out}
+use Rattle.stand.proofs.Refusal.{passes}
 use Rattle.stand.proofs.Shape.{formed-opens, sections-few, sections-some, slot-inj, slot-lt}
 use Rattle.stand.proofs.Storage.{Fitting, fits-apart}
 
@@ -188,12 +188,6 @@ pub by-edited : (Q : Outcome ℕ → Type 0) (n : ℕ) (s : State) (e : Edited)
 unfolding edited
 by-edited Q zero s e n y = y refl
 by-edited Q (suc k) s e n y = n k refl
-
--- a table that gives no number begins with a test that fails
-pub passes : (b : Bool) (n : ℕ) (rs : List Rule) → first ((b ⇒ suc n) ∷ rs) ≡ 0 → (b ≡ false) × (first rs ≡ 0)
-unfolding first
-passes true n rs e = absurd (omega arith)
-passes false n rs e = (refl, e)
 
 -- a set that nothing turns back
 pub record Settable (formed fits : Bool) (g : Shape) (generation old : ℕ) (c : Cell) (v : ℕ) : Type 0 where

@@ -1,5 +1,6 @@
 -- Laws of `stand`.
 pub mod Edit
+pub mod Feed
 pub mod Formed
 pub mod Kept
 pub mod Levels
@@ -12,3 +13,4 @@ pub mod Slots
 pub mod Sound
 pub mod Storage
 pub mod Tests
+pub mod Walk

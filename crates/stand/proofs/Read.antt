@@ -26,7 +26,7 @@ use Rattle.stand.specs.declared.volume.shape.Place.the-variants as P
 use Rattle.stand.specs.declared.volume.shape.Point.{Point}
 use Rattle.stand.proofs.Formed.{placed-at, placed-out, some-x, some-y}
 use Rattle.stand.proofs.Levels.{clamp-law, from-law, last-law}
-use Rattle.stand.proofs.Refusal.{accepted, first-part, first-rest, numbered, turned}
+use Rattle.stand.proofs.Refusal.{accepted, first-part, first-rest, numbered, passes, turned}
 use Rattle.stand.proofs.Shape.{Axis, Within, formed-counts, formed-opens, goods, slot-chunk, slot-lt}
 
 -- ---- refusals
@@ -55,11 +55,6 @@ unfolding answer first
 ill-formed v rs a e = rw e
 
 -- rules of which none applies
-passes : (b : Bool) (n : ℕ) (rs : List Rule) → first ((b ⇒ suc n) ∷ rs) ≡ 0 → (b ≡ false) × (first rs ≡ 0)
-unfolding first
-passes true n rs e = absurd (omega arith)
-passes false n rs e = (refl, e)
-
 pub record Listed (k : ℕ) (v : Volume) (l : ℕ) : Type 0 where
   pub formed : wellFormed v ≡ true
   pub length : l ≡ sections (shapeOf v) * k

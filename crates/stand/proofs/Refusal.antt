@@ -34,6 +34,12 @@ first-part [] qs h = absurd (h refl)
 first-part ((true ⇒ n) ∷ rs) qs h = refl
 first-part ((false ⇒ n) ∷ rs) qs h = first-part rs qs h
 
+-- a table that gives no number begins with a test that fails
+pub passes : (b : Bool) (n : ℕ) (rs : List Rule) → first ((b ⇒ suc n) ∷ rs) ≡ 0 → (b ≡ false) × (first rs ≡ 0)
+unfolding first
+passes true n rs e = absurd (omega arith)
+passes false n rs e = (refl, e)
+
 -- a table with no number 0
 unfoldable pub numbered : List Rule → Bool
 numbered [] = true

@@ -2,6 +2,7 @@
 pub mod Answer
 pub mod Cells
 pub mod Edit
+pub mod Feed
 pub mod Fill
 pub mod Hash
 pub mod Opening
@@ -11,3 +12,4 @@ pub mod Shape
 pub mod Sides
 pub mod Sound
 pub mod Storage
+pub mod Walk

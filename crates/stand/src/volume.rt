@@ -3,11 +3,14 @@ use crate::Cell;
 
 pub mod answer;
 pub mod edit;
+pub mod feed;
 pub mod hash;
 pub mod opening;
 pub mod read;
+pub mod reader;
 pub mod shape;
 pub mod storage;
+pub mod walk;
 
 // Cells along one edge of a chunk. A chunk is document 01's section.
 pub const CHUNK: u64 = 16;
