@@ -5,6 +5,7 @@ pub mod answer;
 pub mod edit;
 pub mod feed;
 pub mod hash;
+pub mod lent;
 pub mod opening;
 pub mod read;
 pub mod reader;
