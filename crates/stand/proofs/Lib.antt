@@ -1,6 +1,7 @@
 -- Laws of `stand`.
 pub mod Edit
 pub mod Feed
+pub mod Fill
 pub mod Formed
 pub mod Kept
 pub mod Levels

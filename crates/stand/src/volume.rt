@@ -4,6 +4,7 @@ use crate::Cell;
 pub mod answer;
 pub mod edit;
 pub mod feed;
+pub mod fill;
 pub mod hash;
 pub mod lent;
 pub mod opening;

@@ -1,0 +1,444 @@
+-- Laws of boxes and fills: corners clamped, cells listed part by part, and what setting them keeps.
+use mathlib.Core.Path.{_≡_, refl, sym, ap, _∙_}
+use mathlib.Core.Bool.{Bool, true, false, cond, false≢true}
+use mathlib.Core.List.{List, [], _∷_, _++_, List·Memᴰ, List·Memᴰ·append-cases, List·Memᴰ·eq-of-singleton, List·Memᴰ·head, List·Memᴰ·not-nil, List·Memᴰ·tail}
+use mathlib.Core.Logic.{⊎-elim}
+use Prim.Native.Nat.{ℕ, zero, suc, _+_, _-_, _*_, _^_, _≤_, _<_, min, max}
+use native.Mathlib.Omega.{arith}
+use native.Mathlib.Nat.{min-eq-left, max-eq-right, min-comm, max-comm, add-zero, add-assoc, mul-zero, mul-suc, one-mul, zero-add, le-mul-of-pos-right, mul-comm, mul-le-mul, mul-le-mul-left, mul-mul-mul-comm}
+use native.Mathlib.Numerals.{add-one}
+use borrow.Author.Tests.{le-ltb, lt-ltb, leb-true, leb-false}
+use lib.IntN.{ℤ, pos, negsuc, _-ℤ_, natAbs}
+use lib.ListN.{length, length-append, length-set}
+use lib.Signed.{leZ}
+use mir.Syntax.{w32}
+use mir.Val.{SFits}
+use Rattle.arith.specs.Level.{levelOf}
+use Rattle.stand.specs.Edit.{Edited, Storable, changed, edited, editedOf, fitting, lastGeneration, put, setDef}
+use Rattle.stand.specs.Fill.{Fillable, Inside, Spanned, andThen, boxCells, boxOf, fillCall, fillDef, fillRefusal, highCell, highZ, lowCell, lowZ, planeCells, rowCells, setEach, solidCells, spanning, volumeIn}
+use Rattle.stand.specs.Refusal.{first, gives, refused}
+use Rattle.stand.specs.Shape.{Below, Ranged, Shape, Stored, cellFrom, chunksIn, chunksOn, clampAt, clampOn, clampSpot, counted, countsOf, inside, levelsOf, maxChunks, opens, pointOf, product, sections, shapeOf, slot, slotAt, wellFormed}
+use Rattle.stand.specs.Sound.{Sound}
+use Rattle.stand.specs.Storage.{Outcome, State, lengthsOf, outcomeOf, shape, storage}
+use Rattle.stand.specs.declared.Cell.{Cell}
+use Rattle.stand.specs.declared.volume.Volume.{Volume}
+use Rattle.stand.specs.declared.volume.shape.Point.{Point}
+use Rattle.stand.specs.declared.volume.shape.Region.{Region}
+use Rattle.stand.proofs.Kept.{set-sound}
+use Rattle.stand.proofs.Edit.{by-edited, put-count, put-generation, set-fitting, set-formed, set-keeps, set-shape, storable}
+use Rattle.stand.proofs.Levels.{clamp-law}
+use Rattle.stand.proofs.Shape.{chunks-some, formed-counts, formed-opens, goods, inside-from, sections-few, slot-at-lt, slot-from, stored}
+
+-- ---- one axis of a box, by levels
+
+pub clamp-mono : (o n a b : ℕ) → a ≤ b → clampAt o n a ≤ clampAt o n b
+unfolding clampAt
+clamp-mono o n a b h = omega arith
+
+-- the lower coordinate first
+pub span : (o n : ℕ) {p q : ℕ} (a b : ℕ) → a ≤ b → p ≡ clampAt o n a → q ≡ clampAt o n b → q < n → Spanned o n a b p (q - p + 1)
+span o n a b h ep eq l =
+    let m = clamp-mono o n a b h in
+    record {
+      low-is = rw (min-eq-left h) ep;
+      count-is = rw (min-eq-left h, max-eq-right h) (rw (ep, eq) refl);
+      some = omega arith;
+      inside = omega arith;
+    }
+
+-- the order of the corners is free
+pub span-swap : {o n low count : ℕ} (a b : ℕ) → Spanned o n b a low count → Spanned o n a b low count
+span-swap a b s = record {
+  low-is = rw min-comm (s .low-is);
+  count-is = rw (min-comm a b, max-comm a b) (s .count-is);
+  some = s .some;
+  inside = s .inside;
+}
+
+-- ---- corners ordered
+
+-- by levels, whichever way the test goes
+orders : (t : Bool) (a b : ℤ) → SFits w32 a → SFits w32 b → leZ a b ≡ t → (levelOf (cond t a b) ≡ min (levelOf a) (levelOf b)) × (levelOf (cond t b a) ≡ max (levelOf a) (levelOf b))
+orders true (pos a) (pos b) f g e = let h = leb-true a b e in omega arith
+orders true (pos a) (negsuc b) f g e = absurd (false≢true e)
+orders true (negsuc a) (pos b) f g e = omega arith
+orders true (negsuc a) (negsuc b) f g e = let h = leb-true b a e in omega (arith, f .sfits, g .sfits)
+orders false (pos a) (pos b) f g e = let h = leb-false a b e in omega arith
+orders false (pos a) (negsuc b) f g e = omega arith
+orders false (negsuc a) (pos b) f g e = absurd (false≢true (sym e))
+orders false (negsuc a) (negsuc b) f g e = let h = leb-false b a e in omega (arith, f .sfits, g .sfits)
+
+pick-fits : (t : Bool) {a b : ℤ} → SFits w32 a → SFits w32 b → SFits w32 (cond t a b)
+pick-fits true f g = f
+pick-fits false f g = g
+
+module _ (a b : ℤ) (fa : SFits w32 a) (fb : SFits w32 b) where
+  pub low-level : levelOf (lowZ a b) ≡ min (levelOf a) (levelOf b)
+  unfolding lowZ
+  low-level = orders (leZ a b) a b fa fb refl .0
+
+  pub high-level : levelOf (highZ a b) ≡ max (levelOf a) (levelOf b)
+  unfolding highZ
+  high-level = orders (leZ a b) a b fa fb refl .1
+
+  low-fits : SFits w32 (lowZ a b)
+  unfolding lowZ
+  low-fits = pick-fits (leZ a b) fa fb
+
+  high-fits : SFits w32 (highZ a b)
+  unfolding highZ
+  high-fits = pick-fits (leZ a b) fb fa
+
+-- one axis of the box
+module _ (o : ℤ) (n : ℕ) (a b : ℤ) (fo : SFits w32 o) (fa : SFits w32 a) (fb : SFits w32 b) where
+  low-clamp : clampOn o n (lowZ a b) ≡ clampAt (levelOf o) n (min (levelOf a) (levelOf b))
+  low-clamp = clamp-law o n (lowZ a b) fo (low-fits a b fa fb) ∙ ap (clampAt (levelOf o) n) (low-level a b fa fb)
+
+  high-clamp : clampOn o n (highZ a b) ≡ clampAt (levelOf o) n (max (levelOf a) (levelOf b))
+  high-clamp = clamp-law o n (highZ a b) fo (high-fits a b fa fb) ∙ ap (clampAt (levelOf o) n) (high-level a b fa fb)
+
+  axis-box : {lo ln la lb low count : ℕ} → lo ≡ levelOf o → ln ≡ n → la ≡ levelOf a → lb ≡ levelOf b → Spanned lo ln la lb low count
+      → (low ≡ clampOn o n (lowZ a b)) × (count ≡ clampOn o n (highZ a b) - clampOn o n (lowZ a b) + 1)
+  axis-box eo en ea eb s = (
+    s .low-is ∙ (λ i. clampAt (eo i) (en i) (min (ea i) (eb i))) ∙ sym low-clamp,
+    s .count-is
+        ∙ (λ i. clampAt (eo i) (en i) (max (ea i) (eb i)) - clampAt (eo i) (en i) (min (ea i) (eb i)) + 1)
+        ∙ (λ i. sym high-clamp i - sym low-clamp i + 1),
+  )
+
+-- and the three
+pub boxed : (g : Shape) (a b : Cell) {o n p q : Point} → Ranged (g .origin) → Ranged a → Ranged b
+    → o ≡ levelsOf (g .origin) → n ≡ g .size → p ≡ levelsOf a → q ≡ levelsOf b
+    → {lx ly lz cx cy cz : ℕ} → Spanned (o .x) (n .x) (p .x) (q .x) lx cx → Spanned (o .y) (n .y) (p .y) (q .y) ly cy → Spanned (o .z) (n .z) (p .z) (q .z) lz cz
+    → _≡_ {A = Region} (record { low = pointOf lx ly lz; count = pointOf cx cy cz }) (boxOf g a b)
+unfolding boxOf spanning clampSpot lowCell highCell
+boxed g a b ro ra rb eo en ea eb x y z =
+    let bx = axis-box _ _ _ _ (ro .x) (ra .x) (rb .x) (λ j. eo j .x) (λ j. en j .x) (λ j. ea j .x) (λ j. eb j .x) x in
+    let by = axis-box _ _ _ _ (ro .y) (ra .y) (rb .y) (λ j. eo j .y) (λ j. en j .y) (λ j. ea j .y) (λ j. eb j .y) y in
+    let bz = axis-box _ _ _ _ (ro .z) (ra .z) (rb .z) (λ j. eo j .z) (λ j. en j .z) (λ j. ea j .z) (λ j. eb j .z) z in
+    λ i. record { low = pointOf (bx .0 i) (by .0 i) (bz .0 i); count = pointOf (bx .1 i) (by .1 i) (bz .1 i) }
+
+-- the sizes of a header that passes are at least 1
+pub sizes-some : (v : Volume) {n : Point} → wellFormed v ≡ true → n ≡ countsOf (v .size) → (1 ≤ n .x) × (1 ≤ n .y) × (1 ≤ n .z)
+unfolding wellFormed
+sizes-some v ok e =
+    let g = goods _ _ _ ok in
+    rw e (g .x .some, g .y .some, g .z .some)
+
+-- ---- a box is inside
+
+clamp-cond : (t : Bool) (m n : ℕ) → 1 ≤ n → cond t (min m (n - 1)) 0 < n
+clamp-cond true m n h = omega arith
+clamp-cond false m n h = omega arith
+
+pub clamp-lt : (o : ℤ) (n : ℕ) (c : ℤ) → 1 ≤ n → clampOn o n c < n
+unfolding clampOn
+clamp-lt o n c h = clamp-cond (leZ (pos 0) (c -ℤ o)) (natAbs (c -ℤ o)) n h
+
+span-in : (n p q : ℕ) → p < n → q < n → p + (q - p + 1) ≤ n
+span-in n p q hp hq = omega arith
+
+pub box-in : (g : Shape) (a b : Cell) → opens g ≡ true → Inside g (boxOf g a b)
+unfolding opens boxOf spanning clampSpot
+box-in g a b e =
+    let k = goods _ _ _ e in
+    record {
+      some-x = omega arith;
+      some-y = omega arith;
+      some-z = omega arith;
+      x = span-in _ _ _ (clamp-lt _ _ _ (k .x .some)) (clamp-lt _ _ _ (k .x .some));
+      y = span-in _ _ _ (clamp-lt _ _ _ (k .y .some)) (clamp-lt _ _ _ (k .y .some));
+      z = span-in _ _ _ (clamp-lt _ _ _ (k .z .some)) (clamp-lt _ _ _ (k .z .some));
+    }
+
+-- ---- cells part by part
+
+-- lists of cells that grow by w at each step: rows by a cell, planes by a row, solids by a plane
+pub record Parts (all part : Shape → ℕ → List Cell) (w : ℕ) : Type 0 where
+  pub none : (g : Shape) → all g 0 ≡ []
+  pub more : (g : Shape) (i : ℕ) → all g (suc i) ≡ all g i ++ part g i
+  pub each : (g : Shape) (i : ℕ) → length (part g i) ≡ w
+
+module _ {all part : Shape → ℕ → List Cell} {w : ℕ} (r : Parts all part w) (g : Shape) where
+  pub parts-length : (n : ℕ) → length (all g n) ≡ w * n
+  parts-length zero = ap length (r .none g) ∙ sym (mul-zero w)
+  parts-length (suc n) =
+      ap length (r .more g n) ∙ length-append (all g n) (part g n)
+      ∙ (λ i. parts-length n i + r .each g n i) ∙ sym (mul-suc w n)
+
+  -- what holds of each part's cells holds of all
+  pub parts-hold : (Q : Cell → Type 0) (n : ℕ) → ((i : ℕ) → i < n → (c : Cell) → List·Memᴰ c (part g i) → Q c) → (c : Cell) → List·Memᴰ c (all g n) → Q c
+  parts-hold Q zero h c m = absurd (List·Memᴰ·not-nil (rw (r .none g) at m))
+  parts-hold Q (suc n) h c m =
+      ⊎-elim (parts-hold Q n (λ i l. h i (omega arith)) c) (h n (omega arith) c)
+      (List·Memᴰ·append-cases (all g n) (rw (r .more g n) at m))
+
+pub rows : (p : Point) → Parts (λ (g : Shape). rowCells g p) (λ (g : Shape) (i : ℕ). cellFrom g (pointOf (p .x + i) (p .y) (p .z)) ∷ []) 1
+unfolding rowCells
+rows p = record { none = λ g. refl; more = λ g i. refl; each = λ g i. refl }
+
+pub row-length : (g : Shape) (p : Point) (n : ℕ) → length (rowCells g p n) ≡ n
+row-length g p n = parts-length (rows p) g n ∙ one-mul n
+
+pub planes : (p : Point) (n : ℕ) → Parts (λ (g : Shape). planeCells g p n) (λ (g : Shape) (i : ℕ). rowCells g (pointOf (p .x) (p .y + i) (p .z)) n) n
+unfolding planeCells
+planes p n = record { none = λ g. refl; more = λ g i. refl; each = λ g i. row-length g _ n }
+
+pub solids : (p : Point) (n m : ℕ) → Parts (λ (g : Shape). solidCells g p n m) (λ (g : Shape) (i : ℕ). planeCells g (pointOf (p .x) (p .y) (p .z + i)) n m) (n * m)
+unfolding solidCells
+solids p n m = record { none = λ g. refl; more = λ g i. refl; each = λ g i. parts-length (planes _ n) g m }
+
+pub box-length : (g : Shape) (k : Region) → length (boxCells g k) ≡ volumeIn k
+unfolding boxCells volumeIn product
+box-length g k = parts-length (solids (k .low) (k .count .x) (k .count .y)) g (k .count .z)
+
+-- ---- the cells of a box are inside
+
+module _ (g : Shape) where
+  row-inside : (p : Point) (n : ℕ) → p .x + n ≤ g .size .x → p .y < g .size .y → p .z < g .size .z → (c : Cell) → List·Memᴰ c (rowCells g p n) → inside g c ≡ true
+  row-inside p n x y z = parts-hold (rows p) g (λ c. inside g c ≡ true) n (λ i l c m. rw (List·Memᴰ·eq-of-singleton m) (inside-from g (pointOf (p .x + i) (p .y) (p .z)) (record { x = omega arith; y = y; z = z })))
+
+  plane-inside : (p : Point) (n m : ℕ) → p .x + n ≤ g .size .x → p .y + m ≤ g .size .y → p .z < g .size .z → (c : Cell) → List·Memᴰ c (planeCells g p n m) → inside g c ≡ true
+  plane-inside p n m x y z = parts-hold (planes p n) g (λ c. inside g c ≡ true) m (λ i l. row-inside (pointOf (p .x) (p .y + i) (p .z)) n x (omega arith) z)
+
+  pub cells-inside : (k : Region) → Inside g k → (c : Cell) → List·Memᴰ c (boxCells g k) → inside g c ≡ true
+  unfolding boxCells
+  cells-inside k h = parts-hold (solids (k .low) (k .count .x) (k .count .y)) g (λ c. inside g c ≡ true) (k .count .z) (λ i l. plane-inside (pointOf (k .low .x) (k .low .y) (k .low .z + i)) (k .count .x) (k .count .y) (h .x) (h .y) (omega (arith, h .z)))
+
+  pub box-inside : (a b c : Cell) → opens g ≡ true → List·Memᴰ c (boxCells g (boxOf g a b)) → inside g c ≡ true
+  box-inside a b c e = cells-inside (boxOf g a b) (box-in g a b e) c
+
+-- ---- setting cells one after another
+
+pub setEach-append : (e : Edited) (xs ys : List Cell) (v : ℕ) → setEach e (xs ++ ys) v ≡ setEach (setEach e xs v) ys v
+unfolding setEach
+setEach-append e [] ys v = refl
+setEach-append e (c ∷ cs) ys v = setEach-append (andThen (e .count) (setDef (e .state) c v)) cs ys v
+
+-- counts add up
+pub each-from : (k n : ℕ) (s : State) (cs : List Cell) (v : ℕ) → setEach (editedOf (k + n) s) cs v ≡ andThen k (setEach (editedOf n s) cs v)
+unfolding setEach andThen
+each-from k n s [] v = refl
+each-from k n s (c ∷ cs) v =
+    ap (λ (m : ℕ). setEach (editedOf m (setDef s c v .state)) cs v) (add-assoc k n (setDef s c v .count))
+    ∙ each-from k (n + setDef s c v .count) (setDef s c v .state) cs v
+
+pub each-one : (s : State) (c : Cell) (v : ℕ) → setEach (editedOf 0 s) (c ∷ []) v ≡ setDef s c v
+unfolding setEach andThen
+each-one s c v = λ i. editedOf (zero-add (setDef s c v .count) i) (setDef s c v .state)
+
+-- what a set of each of them keeps, all of them keep
+pub each-keeps : (Q : State → Type 0) (v : ℕ) (cs : List Cell) → ((s : State) (c : Cell) → List·Memᴰ c cs → Q s → Q (setDef s c v .state)) → (e : Edited) → Q (e .state) → Q (setEach e cs v .state)
+unfolding setEach andThen
+each-keeps Q v [] h e q = q
+each-keeps Q v (c ∷ cs) h e q =
+    each-keeps Q v cs (λ s d m. h s d (List·Memᴰ·tail m)) (andThen (e .count) (setDef (e .state) c v)) (h (e .state) c (List·Memᴰ·head refl) q)
+
+-- each change is one generation, and a cell changes at most once
+pub each-generation : (cs : List Cell) (e : Edited) (v : ℕ) → setEach e cs v .state .volume .generation + e .count ≡ e .state .volume .generation + setEach e cs v .count
+unfolding setEach andThen setDef
+each-generation [] e v = refl
+each-generation (c ∷ cs) e v =
+    let p = put-generation (e .state) (slot (shape (e .state)) c) v in
+    omega (arith, each-generation cs (andThen (e .count) (setDef (e .state) c v)) v)
+
+pub each-count : (cs : List Cell) (e : Edited) (v : ℕ) → setEach e cs v .count ≤ e .count + length cs
+unfolding setEach andThen setDef
+each-count [] e v = omega arith
+each-count (c ∷ cs) e v =
+    let p = put-count (e .state) (slot (shape (e .state)) c) v in
+    omega (arith, each-count cs (andThen (e .count) (setDef (e .state) c v)) v)
+
+changed-lengths : (s : State) (i v : ℕ) → lengthsOf (storage (changed s i v)) ≡ lengthsOf (storage s)
+unfolding changed
+changed-lengths s i v = simp length-set
+
+-- shape, header's form and lengths stay
+module _ (cs : List Cell) (e : Edited) (v : ℕ) where
+  same : {A : Type 0} (f : State → A) → ((s : State) (c : Cell) → f (setDef s c v .state) ≡ f s) → f (setEach e cs v .state) ≡ f (e .state)
+  same f h = each-keeps (λ s. f s ≡ f (e .state)) v cs (λ s c m q. h s c ∙ q) e refl
+
+  pub each-shape : shape (setEach e cs v .state) ≡ shape (e .state)
+  each-shape = same shape (λ s c. set-shape s c v)
+
+  pub each-formed : wellFormed (setEach e cs v .state .volume) ≡ wellFormed (e .state .volume)
+  each-formed = same (λ (s : State). wellFormed (s .volume)) (λ s c. set-formed s c v)
+
+  pub each-fitting : fitting (setEach e cs v .state) ≡ fitting (e .state)
+  each-fitting = same fitting (λ s c. set-fitting s c v)
+
+  pub each-lengths : lengthsOf (storage (setEach e cs v .state)) ≡ lengthsOf (storage (e .state))
+  each-lengths = same (λ (s : State). lengthsOf (storage s)) (λ s c. set-keeps s c v (λ (t : State). lengthsOf (storage t)) (λ i. changed-lengths s i v))
+
+-- ---- a fill's loop: t parts of w cells each
+
+-- after i parts, with k cells changed
+pub record Filled (all : Shape → ℕ → List Cell) (w t : ℕ) (s₀ : State) (v : ℕ) (s : State) (k i : ℕ) : Type 0 where
+  pub done : editedOf k s ≡ setEach (editedOf 0 s₀) (all (shape s₀) i) v
+  pub few : k ≤ w * i
+  pub most : i ≤ t
+
+times-step : (w i t : ℕ) → i < t → w * i + w ≤ w * t
+times-step w i t h = rw mul-suc at (mul-le-mul-left w h)
+
+module _ {all part : Shape → ℕ → List Cell} {w : ℕ} (r : Parts all part w) where
+  pub fill-none : (t v : ℕ) (s : State) → Filled all w t s v s 0 0
+  unfolding setEach
+  fill-none t v s = record { done = rw (r .none (shape s)); few = omega arith; most = omega arith }
+
+  module _ {t v k i : ℕ} {s₀ s : State} (h : Filled all w t s₀ v s k i) where
+    kept-shape : shape s ≡ shape s₀
+    kept-shape = ap (λ (e : Edited). shape (e .state)) (h .done) ∙ each-shape (all (shape s₀) i) (editedOf 0 s₀) v
+
+    pub fill-lengths : lengthsOf (storage s) ≡ lengthsOf (storage s₀)
+    fill-lengths = ap (λ (e : Edited). lengthsOf (storage (e .state))) (h .done) ∙ each-lengths (all (shape s₀) i) (editedOf 0 s₀) v
+
+    -- no part is left
+    pub fill-all : t ≤ i → (editedOf k s ≡ setEach (editedOf 0 s₀) (all (shape s₀) t) v) × (k ≤ w * t)
+    fill-all l =
+        let e : i ≡ t = omega arith in
+        rw (← e) (h .done, h .few)
+
+    module _ (l : i < t) where
+      -- one more part
+      pub fill-more : {j : ℕ} {u : State} → editedOf j u ≡ setEach (editedOf 0 s) (part (shape s) i) v → j ≤ w → Filled all w t s₀ v u (k + j) (i + 1)
+      unfolding andThen
+      fill-more {j} {u} d b = record {
+        done =
+            ap (andThen k) d
+            ∙ sym (each-from k 0 s (part (shape s) i) v)
+            ∙ ap (λ (n : ℕ). setEach (editedOf n s) (part (shape s) i) v) (add-zero k)
+            ∙ (λ q. setEach (h .done q) (part (kept-shape q) i) v)
+            ∙ sym (setEach-append (editedOf 0 s₀) (all (shape s₀) i) (part (shape s₀) i) v)
+            ∙ ap (λ (cs : List Cell). setEach (editedOf 0 s₀) cs v) (sym (r .more (shape s₀) i))
+            ∙ ap (λ (n : ℕ). setEach (editedOf 0 s₀) (all (shape s₀) n) v) (sym (add-one i));
+        few = rw (add-one, mul-suc) (omega arith);
+        most = omega arith;
+      }
+
+      -- which can be filled
+      module _ {p : Point} {n m o : ℕ} (f : Fillable s₀ p n m o) (whole : n * m * o ≡ w * t) where
+        pub fill-next : (d : Point) (a b c : ℕ) → a * b * c ≡ w → d .x + a ≤ p .x + n → d .y + b ≤ p .y + m → d .z + c ≤ p .z + o → Fillable s d a b c
+        fill-next d a b c e x y z =
+            let g : s .volume .generation + 0 ≡ s₀ .volume .generation + k = rw (← h .done) at (each-generation (all (shape s₀) i) (editedOf 0 s₀) v) in
+            record {
+              formed = ap (λ (e : Edited). wellFormed (e .state .volume)) (h .done) ∙ each-formed _ _ v ∙ f .formed;
+              fits = ap (λ (e : Edited). fitting (e .state)) (h .done) ∙ each-fitting _ _ v ∙ f .fits;
+              x = rw kept-shape (omega (arith, f .x));
+              y = rw kept-shape (omega (arith, f .y));
+              z = rw kept-shape (omega (arith, f .z));
+              left = rw e (omega (arith, f .left, h .few, times-step w i t l));
+            }
+
+        -- and its count fits
+        pub fill-count : {j : ℕ} → j ≤ w → k + j < 2 ^ 64
+        fill-count b = omega (arith, f .left, times-step w i t l)
+
+-- ---- one cell by its distances
+
+module _ {s : State} {d : Point} (f : Fillable s d 1 1 1) {k : Point} (e : k ≡ countsOf (s .volume .chunks)) where
+  counts : k ≡ counted (shape s)
+  counts = e ∙ formed-counts (s .volume) (f .formed)
+
+  pub spot-stored : Stored k d
+  spot-stored = rw counts (stored (shape s) d (formed-opens (s .volume) (f .formed)) (record { x = omega (arith, f .x); y = omega (arith, f .y); z = omega (arith, f .z) }))
+
+  module _ {i : ℕ} (at : i ≡ slotAt k d) where
+    pub spot-storable : Storable s i
+    unfolding sections
+    spot-storable = rw at (storable s (slotAt k d) (f .formed) (f .fits) (rw (← counts) (slot-at-lt k d spot-stored)))
+
+    pub spot-set : (v : ℕ) → put s i v ≡ setDef s (cellFrom (shape s) d) v
+    unfolding setDef
+    spot-set v = ap (λ (i : ℕ). put s i v) (at ∙ ap (λ (c : Point). slotAt c d) counts ∙ sym (slot-from (shape s) d))
+
+-- ---- sizes and boxes fit
+
+whole-chunks : (n : ℕ) → n ≤ chunksOn n * 16
+unfolding chunksOn
+whole-chunks n = omega arith
+
+le-times : (a b : ℕ) → 1 ≤ a → b ≤ a * b
+le-times a b h = rw (mul-comm a b) (le-mul-of-pos-right b h)
+
+factors : (a b d m : ℕ) → 1 ≤ a → 1 ≤ b → 1 ≤ d → a * b * d ≤ m → (a ≤ m) × (b ≤ m) × (d ≤ m)
+factors a b d m ha hb hd h =
+    let p = le-mul-of-pos-right a hb in
+    let q = le-times a b ha in
+    let r = le-mul-of-pos-right (a * b) hd in
+    let t = le-times (a * b) d (omega arith) in
+    (omega arith, omega arith, omega arith)
+
+pub sizes-few : (g : Shape) → opens g ≡ true → Below (16 * maxChunks + 1) (g .size)
+unfolding opens product counted chunksIn
+sizes-few g e =
+    let k = goods _ _ _ e in
+    let f = factors _ _ _ maxChunks (chunks-some _ (k .x .some)) (chunks-some _ (k .y .some)) (chunks-some _ (k .z .some)) (k .few) in
+    record {
+      x = omega (arith, whole-chunks (g .size .x), f .0);
+      y = omega (arith, whole-chunks (g .size .y), f .1);
+      z = omega (arith, whole-chunks (g .size .z), f .2);
+    }
+
+pub box-few : (g : Shape) (k : Region) → opens g ≡ true → Inside g k → volumeIn k ≤ sections g * 4096
+unfolding volumeIn product sections counted chunksIn
+box-few g k e h =
+    let x : k .count .x ≤ chunksOn (g .size .x) * 16 = omega (arith, h .x, whole-chunks (g .size .x)) in
+    let y : k .count .y ≤ chunksOn (g .size .y) * 16 = omega (arith, h .y, whole-chunks (g .size .y)) in
+    let z : k .count .z ≤ chunksOn (g .size .z) * 16 = omega (arith, h .z, whole-chunks (g .size .z)) in
+    let q = mul-le-mul (mul-le-mul x y) z in
+    rw (mul-mul-mul-comm (chunksOn (g .size .x)) 16 (chunksOn (g .size .y)) 16, mul-mul-mul-comm (chunksOn (g .size .x) * chunksOn (g .size .y)) 256 (chunksOn (g .size .z)) 16) at q
+
+-- and so do the products of its sides
+pub box-fits : (v : Volume) (k : Region) → wellFormed v ≡ true → Inside (shapeOf v) k → (k .count .x * k .count .y < 2 ^ 64) × (k .count .x * k .count .y * k .count .z < 2 ^ 64)
+unfolding volumeIn product
+box-fits v k ok h =
+    let o = formed-opens v ok in
+    let f = box-few (shapeOf v) k o h in
+    let m = sections-few (shapeOf v) o in
+    let p = le-mul-of-pos-right (k .count .x * k .count .y) (h .some-z) in
+    (omega arith, omega arith)
+
+-- where generations remain for all its cells, it can be filled
+pub box-fillable : (s : State) (k : Region) → wellFormed (s .volume) ≡ true → fitting s ≡ true → Inside (shape s) k → s .volume .generation ≤ lastGeneration → k .count .x * k .count .y * k .count .z ≤ lastGeneration - s .volume .generation → Fillable s (k .low) (k .count .x) (k .count .y) (k .count .z)
+box-fillable s k ok fit i g h = record { formed = ok; fits = fit; x = i .x; y = i .y; z = i .z; left = omega arith }
+
+-- ---- a fill, by the code's tests
+
+module _ (s : State) (a b : Cell) (v : ℕ) where
+  pub fill-3 : wellFormed (s .volume) ≡ false → outcomeOf (refused 3) s ≡ fillCall s a b v
+  unfolding fillCall fillRefusal first edited
+  fill-3 e = rw e
+
+  module _ (ok : wellFormed (s .volume) ≡ true) where
+    pub fill-4 : fitting s ≡ false → outcomeOf (refused 4) s ≡ fillCall s a b v
+    unfolding fillCall fillRefusal first edited
+    fill-4 e = rw (ok, e)
+
+    module _ (fit : fitting s ≡ true) (k : Region) (e : k ≡ boxOf (shape s) a b) where
+      pub fill-6 : lastGeneration - s .volume .generation < k .count .x * k .count .y * k .count .z → outcomeOf (refused 6) s ≡ fillCall s a b v
+      unfolding fillCall fillRefusal first edited volumeIn product
+      fill-6 h = rw (ok, fit, ← e, lt-ltb _ _ h)
+
+      pub fill-done : k .count .x * k .count .y * k .count .z ≤ lastGeneration - s .volume .generation → {n : ℕ} {t : State} → editedOf n t ≡ setEach (editedOf 0 s) (solidCells (shape s) (k .low) (k .count .x) (k .count .y) (k .count .z)) v → outcomeOf (gives n) t ≡ fillCall s a b v
+      unfolding fillCall fillRefusal first edited fillDef volumeIn product boxCells
+      fill-done h d = rw (ok, fit, ← e, le-ltb _ _ h) (ap (λ (f : Edited). outcomeOf (gives (f .count)) (f .state)) d)
+
+-- ---- a sound stand stays so
+
+pub fill-sound : (s : State) (a b : Cell) (v : ℕ) → Sound s → Sound (fillDef s a b v .state)
+unfolding fillDef
+fill-sound s a b v q =
+    each-keeps (λ t. Sound t × (shape t ≡ shape s)) v (boxCells (shape s) (boxOf (shape s) a b))
+    (λ t c m p. (
+      set-sound t c v (p .0) (rw (p .1) (box-inside (shape s) a b c (formed-opens (s .volume) (q .formed)) m)),
+      set-shape t c v ∙ p .1,
+    ))
+    (editedOf 0 s) (q, refl) .0
+
+-- any call of fill
+pub fill-call-sound : (s : State) (a b : Cell) (v : ℕ) → Sound s → Sound (fillCall s a b v .state)
+unfolding fillCall
+fill-call-sound s a b v q =
+    by-edited (λ (o : Outcome ℕ). Sound (o .state)) (fillRefusal (wellFormed (s .volume)) (fitting s) (shape s) (s .volume .generation) a b) s (fillDef s a b v)
+    (λ k e. q) (λ e. fill-sound s a b v q)
