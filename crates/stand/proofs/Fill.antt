@@ -15,7 +15,7 @@ use mir.Syntax.{w32}
 use mir.Val.{SFits}
 use Rattle.arith.specs.Level.{levelOf}
 use Rattle.stand.specs.Edit.{Edited, Storable, changed, edited, editedOf, fitting, lastGeneration, put, setDef}
-use Rattle.stand.specs.Fill.{Fillable, Inside, Spanned, andThen, boxCells, boxOf, fillCall, fillDef, fillRefusal, highCell, highZ, lowCell, lowZ, planeCells, rowCells, setEach, solidCells, spanning, volumeIn}
+use Rattle.stand.specs.Fill.{Fillable, Inside, Spanned, andThen, boxCells, boxOf, fillCall, fillDef, fillRefusal, highCell, highZ, lowCell, lowZ, planeCells, rowCells, setEach, solidCells, spanning, cellsIn}
 use Rattle.stand.specs.Refusal.{first, gives, refused}
 use Rattle.stand.specs.Shape.{Below, Ranged, Shape, Stored, cellFrom, chunksIn, chunksOn, clampAt, clampOn, clampSpot, counted, countsOf, inside, levelsOf, maxChunks, opens, pointOf, product, sections, shapeOf, slot, slotAt, wellFormed}
 use Rattle.stand.specs.Sound.{Sound}
@@ -188,8 +188,8 @@ pub solids : (p : Point) (n m : ℕ) → Parts (λ (g : Shape). solidCells g p n
 unfolding solidCells
 solids p n m = record { none = λ g. refl; more = λ g i. refl; each = λ g i. parts-length (planes _ n) g m }
 
-pub box-length : (g : Shape) (k : Region) → length (boxCells g k) ≡ volumeIn k
-unfolding boxCells volumeIn product
+pub box-length : (g : Shape) (k : Region) → length (boxCells g k) ≡ cellsIn k
+unfolding boxCells cellsIn product
 box-length g k = parts-length (solids (k .low) (k .count .x) (k .count .y)) g (k .count .z)
 
 -- ---- the cells of a box are inside
@@ -380,8 +380,8 @@ sizes-few g e =
       z = omega (arith, whole-chunks (g .size .z), f .2);
     }
 
-pub box-few : (g : Shape) (k : Region) → opens g ≡ true → Inside g k → volumeIn k ≤ sections g * 4096
-unfolding volumeIn product sections counted chunksIn
+pub box-few : (g : Shape) (k : Region) → opens g ≡ true → Inside g k → cellsIn k ≤ sections g * 4096
+unfolding cellsIn product sections counted chunksIn
 box-few g k e h =
     let x : k .count .x ≤ chunksOn (g .size .x) * 16 = omega (arith, h .x, whole-chunks (g .size .x)) in
     let y : k .count .y ≤ chunksOn (g .size .y) * 16 = omega (arith, h .y, whole-chunks (g .size .y)) in
@@ -391,7 +391,7 @@ box-few g k e h =
 
 -- and so do the products of its sides
 pub box-fits : (v : Volume) (k : Region) → wellFormed v ≡ true → Inside (shapeOf v) k → (k .count .x * k .count .y < 2 ^ 64) × (k .count .x * k .count .y * k .count .z < 2 ^ 64)
-unfolding volumeIn product
+unfolding cellsIn product
 box-fits v k ok h =
     let o = formed-opens v ok in
     let f = box-few (shapeOf v) k o h in
@@ -417,11 +417,11 @@ module _ (s : State) (a b : Cell) (v : ℕ) where
 
     module _ (fit : fitting s ≡ true) (k : Region) (e : k ≡ boxOf (shape s) a b) where
       pub fill-6 : lastGeneration - s .volume .generation < k .count .x * k .count .y * k .count .z → outcomeOf (refused 6) s ≡ fillCall s a b v
-      unfolding fillCall fillRefusal first edited volumeIn product
+      unfolding fillCall fillRefusal first edited cellsIn product
       fill-6 h = rw (ok, fit, ← e, lt-ltb _ _ h)
 
       pub fill-done : k .count .x * k .count .y * k .count .z ≤ lastGeneration - s .volume .generation → {n : ℕ} {t : State} → editedOf n t ≡ setEach (editedOf 0 s) (solidCells (shape s) (k .low) (k .count .x) (k .count .y) (k .count .z)) v → outcomeOf (gives n) t ≡ fillCall s a b v
-      unfolding fillCall fillRefusal first edited fillDef volumeIn product boxCells
+      unfolding fillCall fillRefusal first edited fillDef cellsIn product boxCells
       fill-done h d = rw (ok, fit, ← e, le-ltb _ _ h) (ap (λ (f : Edited). outcomeOf (gives (f .count)) (f .state)) d)
 
 -- ---- a sound stand stays so

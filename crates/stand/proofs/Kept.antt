@@ -1,25 +1,29 @@
 -- Opening gives a sound stand, and changes keep it sound.
 use mathlib.Core.Path.{_≡_, refl, sym, ap, _∙_}
-use mathlib.Core.Bool.{Bool, true, false}
-use Prim.Native.Nat.{ℕ, zero, suc, _+_, _*_, _/_, _%_, _^_, _<_}
+use mathlib.Core.Bool.{Bool, true, false, cond, false≢true}
+use mathlib.Core.List.{List}
+use Prim.Native.Nat.{ℕ, zero, suc, _+_, _*_, _/_, _%_, _^_, _<_, _≤_}
+use native.Mathlib.Nat.{mod-eq-of-lt}
 use native.Mathlib.Omega.{arith}
 use borrow.Author.Tests.{eqb-true, eqb-false}
 use lib.Dec.{eqb}
 use lib.ListN.{length, getD, replicate, set, length-set}
 use lib.Seq.{getD-set-same, getD-set-other}
+use Rattle.stand.specs.Cells.{isEmpty}
 use Rattle.stand.specs.Edit.{Edited, advanced, changed, fitting, hashAfter, look, put, setCall, setDef, setRefusal, toggled}
-use Rattle.stand.specs.Shape.{Shape, inside, opens, sections, shapeOf, slot, wellFormed}
+use Rattle.stand.specs.Shape.{Shape, cellFrom, counted, inside, opens, sections, shapeOf, slot, spotAt, wellFormed}
 use Rattle.stand.specs.Sound.{Sound, occupied, termsOf}
 use Rattle.stand.specs.Storage.{Outcome, State, freshState, freshStorage, shape, volumeOf}
 use Rattle.stand.specs.declared.Cell.{Cell}
 use Rattle.stand.proofs.Edit.{by-edited, by-put, changed-fitting, changed-formed, changed-shape, fitting-lengths, settable}
 use Rattle.stand.proofs.Opening.{fresh-fits, volume-formed}
-use Rattle.stand.proofs.Shape.{formed-opens, slot-lt}
+use Rattle.stand.proofs.Shape.{formed-opens, sections-few, slot-lt}
+use Rattle.stand.proofs.Slots.{cell-from-slot}
 use Rattle.stand.proofs.Sound.{occupied-change, solid-change, terms-change, terms-keep}
 
 -- ---- a change
 
-module _ (s : State) (i v : ℕ) (q : Sound s) (h : i < sections (shape s) * 4096) where
+module _ (s : State) (i v : ℕ) (q : Sound s) (h : i < sections (shape s) * 4096) (at : inside (shape s) (cellFrom (shape s) (spotAt (counted (shape s)) i)) ≡ true) where
   cell-lt : i < length (s .cells)
   cell-lt = omega (arith, fitting-lengths s (q .fits) .cells)
 
@@ -48,12 +52,20 @@ module _ (s : State) (i v : ℕ) (q : Sound s) (h : i < sections (shape s) * 409
           ∙ q .hash k l
           ∙ sym (terms-keep (s .cells) k i v (λ (r : i / 4096 ≡ k). p (sym r)))
 
+  beyond-kept : (k : ℕ) → inside (shape s) (cellFrom (shape s) (spotAt (counted (shape s)) k)) ≡ false → getD (changed s i v .cells) k 0 ≡ 0
+  unfolding changed
+  beyond-kept k e =
+      getD-set-other (s .cells) i k v 0
+      (λ (r : k ≡ i). false≢true (sym e ∙ ap (λ (j : ℕ). inside (shape s) (cellFrom (shape s) (spotAt (counted (shape s)) j))) r ∙ at))
+      ∙ q .beyond k e
+
   pub changed-sound : Sound (changed s i v)
   changed-sound =
       record {
         formed = changed-formed s i v ∙ q .formed;
         fits = changed-fitting s i v ∙ q .fits;
         solid = solid-kept;
+        beyond = λ k e. beyond-kept k (rw (changed-shape s i v) at e);
         hash = λ k l. hash-kept k (rw (changed-shape s i v) at l);
       }
 
@@ -63,7 +75,9 @@ module _ (s : State) (i v : ℕ) (q : Sound s) (h : i < sections (shape s) * 409
 -- a set of a cell inside
 pub set-sound : (s : State) (c : Cell) (v : ℕ) → Sound s → inside (shape s) c ≡ true → Sound (setDef s c v .state)
 unfolding setDef
-set-sound s c v q e = put-sound s (slot (shape s) c) v q (slot-lt (shape s) c (formed-opens (s .volume) (q .formed)) e)
+set-sound s c v q e =
+    let o = formed-opens (s .volume) (q .formed) in
+    put-sound s (slot (shape s) c) v q (slot-lt (shape s) c o e) (ap (inside (shape s)) (cell-from-slot (shape s) c o e) ∙ e)
 
 -- any call of set
 pub set-call-sound : (s : State) (c : Cell) (v : ℕ) → Sound s → Sound (setCall s c v .state)
@@ -100,6 +114,24 @@ fresh-sound g e =
     record {
       formed = volume-formed g 0 0 e;
       fits = fresh-fitting g;
+      beyond = λ i e. zeros (sections g * 4096) i;
       solid = rw (none-occupied (sections g * 4096) (length (replicate {A = ℕ} (sections g * 4096) 0)));
       hash = λ i l. zeros (sections g) i ∙ sym (no-terms (sections g * 4096) i 4096);
     }
+
+-- ---- what soundness says
+
+occupied-le : (cells : List ℕ) (n : ℕ) → occupied cells n ≤ n
+unfolding occupied
+occupied-le cells zero = omega arith
+occupied-le cells (suc n) = by (isEmpty (getD cells n 0)) (occupied-le cells n)
+  where
+    by : (t : Bool) → occupied cells n ≤ n → occupied cells n + cond t 0 1 ≤ suc n
+    by true h = omega arith
+    by false h = omega arith
+
+-- solid is the number of occupied cells
+pub solid-exact : (s : State) → Sound s → s .volume .solid ≡ occupied (s .cells) (length (s .cells))
+solid-exact s q =
+    q .solid
+    ∙ mod-eq-of-lt (omega (arith, occupied-le (s .cells) (length (s .cells)), fitting-lengths s (q .fits) .cells, sections-few (shape s) (formed-opens (s .volume) (q .formed))))

@@ -14,4 +14,4 @@ pub mod Slots
 pub mod Sound
 pub mod Storage
 pub mod Tests
-pub mod Walk
+pub mod Solids

@@ -75,12 +75,16 @@ unfolding saturate
 ranged (pos n) f = rw (le-ltb 2147483647 n (omega (arith, f .sfits)))
 ranged (negsuc n) f = rw (le-ltb 2147483647 n (omega (arith, f .sfits)))
 
+pub cell-from-slot : (g : Shape) (c : Cell) → opens g ≡ true → inside g c ≡ true → cellFrom g (spotAt (counted g) (slot g c)) ≡ c
+unfolding slot
+cell-from-slot g c e h =
+    ap (cellFrom g) (spot-of-slot (counted g) (distance g c) (stored g (distance g c) e (inside-within g c h))) ∙ from-distance g c h
+
 -- the cell of a cell's slot
 pub cell-of-slot : (g : Shape) (c : Cell) → opens g ≡ true → inside g c ≡ true → Ranged c → cellAt g (slot g c) ≡ c
-unfolding cellAt slot moved cellFrom
+unfolding cellAt moved cellFrom
 cell-of-slot g c e h r =
-    let d = spot-of-slot (counted g) (distance g c) (stored g (distance g c) e (inside-within g c h)) in
-    let p = ap (cellFrom g) d ∙ from-distance g c h in
+    let p = cell-from-slot g c e h in
     λ i. cellOf (on (λ j. p j .x) (r .x) i) (on (λ j. p j .y) (r .y) i) (on (λ j. p j .z) (r .z) i)
   where
     on : {a b : ℤ} → a ≡ b → SFits w32 b → saturate a ≡ b

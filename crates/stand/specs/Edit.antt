@@ -48,7 +48,7 @@ advanced v old new =
       solid = solidAfter (v .solid) old new;
     }
 
--- the section of a storage index takes note of a change to finish v
+-- the cell at storage index i takes finish v: cell, hash, version, log, last change and header
 unfoldable pub changed : State → ℕ → ℕ → State
 changed s i v =
     record {

@@ -1,4 +1,4 @@
--- Filling a box: document 01, 'The stand' and refusal 6.
+-- Filling a box: document 01, 'The stand' and refusals 3, 4 and 6.
 use Prim.Native.Nat.{ℕ, zero, suc, _+_, _-_, _*_, _≤_, min, max}
 use mathlib.Core.Path.{_≡_}
 use mathlib.Core.Bool.{Bool, true, cond, not}
@@ -37,8 +37,8 @@ spanning p q = record { low = p; count = pointOf (q .x - p .x + 1) (q .y - p .y 
 unfoldable pub boxOf : Shape → Cell → Cell → Region
 boxOf g a b = spanning (clampSpot g (lowCell a b)) (clampSpot g (highCell a b))
 
-unfoldable pub volumeIn : Region → ℕ
-volumeIn k = product (k .count)
+unfoldable pub cellsIn : Region → ℕ
+cellsIn k = product (k .count)
 
 -- ---- its cells, z outermost, x innermost
 
@@ -78,7 +78,7 @@ unfoldable pub fillRefusal : Bool → Bool → Shape → ℕ → Cell → Cell �
 fillRefusal formed fits g generation a b =
     first
     ((not formed ⇒ 3) ∷ (not fits ⇒ 4)
-    ∷ (ltb (lastGeneration - generation) (volumeIn (boxOf g a b)) ⇒ 6) ∷ [])
+    ∷ (ltb (lastGeneration - generation) (cellsIn (boxOf g a b)) ⇒ 6) ∷ [])
 
 -- the answer is the cells changed
 unfoldable pub fillCall : State → Cell → Cell → ℕ → Outcome ℕ

@@ -1,6 +1,6 @@
 -- Document 01, 'The stand', term and digest.
 use Prim.Native.Nat.{ℕ, _+_, _*_, _/_, _%_, _^_}
-use mathlib.Core.List.{List, [], _∷_}
+use mathlib.Core.List.{List, [], _∷_, _++_}
 use lib.Bits.{bitXor}
 use lib.IntN.{ℤ}
 use Rattle.arith.specs.Level.{patternOf}
@@ -32,19 +32,21 @@ unfoldable pub foldWords : ℕ → List ℕ → ℕ
 foldWords acc [] = acc
 foldWords acc (w ∷ ws) = foldWords (foldWord acc w) ws
 
--- three signed values, each the unsigned 32-bit pattern
-unfoldable pub foldThree : ℕ → ℤ → ℤ → ℤ → ℕ
-foldThree acc x y z = foldWords acc (patternOf x ∷ patternOf y ∷ patternOf z ∷ [])
+-- origin, section counts and sizes, each the unsigned 32-bit pattern
+unfoldable pub shapeWords : Volume → List ℕ
+shapeWords v =
+    patternOf (v .origin .x) ∷ patternOf (v .origin .y) ∷ patternOf (v .origin .z)
+    ∷ patternOf (v .chunks .x) ∷ patternOf (v .chunks .y) ∷ patternOf (v .chunks .z)
+    ∷ patternOf (v .size .x) ∷ patternOf (v .size .y) ∷ patternOf (v .size .z) ∷ []
 
--- origin, section counts and sizes
-unfoldable pub shapeStart : Volume → ℕ
-shapeStart v =
-    foldThree
-    (foldThree
-    (foldThree 0xcbf29ce484222325 (v .origin .x) (v .origin .y) (v .origin .z))
-    (v .chunks .x) (v .chunks .y) (v .chunks .z))
-    (v .size .x) (v .size .y) (v .size .z)
+unfoldable pub digestStart : ℕ
+digestStart = 0xcbf29ce484222325
 
 -- then the hashes in order
 unfoldable pub digestOf : Volume → List ℕ → ℕ
-digestOf v hashes = foldWords (shapeStart v) hashes
+digestOf v hashes = foldWords digestStart (shapeWords v ++ hashes)
+
+-- ---- for the code: three values at a time
+
+unfoldable pub foldThree : ℕ → ℤ → ℤ → ℤ → ℕ
+foldThree acc x y z = foldWords acc (patternOf x ∷ patternOf y ∷ patternOf z ∷ [])

@@ -12,4 +12,4 @@ pub mod Shape
 pub mod Sides
 pub mod Sound
 pub mod Storage
-pub mod Walk
+pub mod Solids

@@ -27,7 +27,7 @@ openedShape o s = record { origin = o; size = sizesOf s }
 unfoldable pub tooMany : Shape → Bool
 tooMany g = ltb maxChunks (sections g)
 
--- 2: last cell past i32
+-- what 2 asks: a last cell that i32 holds, on each axis
 unfoldable pub lastInside : Cell → Point → Bool
 lastInside o n = lastFits (o .x) (n .x) && (lastFits (o .y) (n .y) && lastFits (o .z) (n .z))
 

@@ -11,8 +11,8 @@ pub mod opening;
 pub mod read;
 pub mod reader;
 pub mod shape;
+pub mod solids;
 pub mod storage;
-pub mod walk;
 
 // Cells along one edge of a chunk. A chunk is document 01's section.
 pub const CHUNK: u64 = 16;

@@ -12,8 +12,8 @@ use stand::volume::Extent;
 use stand::volume::Volume;
 use stand::volume::answer::VolumeAnswer;
 use stand::volume::feed::ChunkStep;
-use stand::volume::walk::SolidStep;
-use stand::volume::walk::Solids;
+use stand::volume::solids::SolidStep;
+use stand::volume::solids::Solids;
 
 // The chunks that changed since a mark, in order: at most two here.
 fn changes(v: Volume, log: &[u32], last: &[u64], mark: u64) {

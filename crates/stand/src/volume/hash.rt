@@ -1,7 +1,7 @@
 // The term of a cell in its chunk's hash, and the digest's fold.
 ghost use mathlib.Core.Path.{_≡_};
 ghost use Prim.Native.Nat.{_<_};
-ghost use Rattle.stand.specs.Hash.{foldThree, foldWord, foldWords, shapeStart, splitMix, termOf};
+ghost use Rattle.stand.specs.Hash.{digestStart, foldThree, foldWord, foldWords, shapeWords, splitMix, termOf};
 ghost use Rattle.stand.specs.Answer.{numberAnswer};
 ghost use Rattle.stand.specs.Read.{digestCall};
 use crate::volume::Volume;
@@ -46,7 +46,7 @@ fn fold_three(accumulator: u64, x: i32, y: i32, z: i32) -> u64
 
 // The digest of the shape.
 fn fold_shape(v: Volume) -> u64
-    ensures { λ r. ⌜ r ≡ shapeStart v ⌝ }
+    ensures { λ r. ⌜ r ≡ foldWords digestStart (shapeWords v) ⌝ }
 {
     let o = v.origin;
     let k = v.chunks;

@@ -2,7 +2,7 @@
 use mathlib.Core.Path.{sym, ap, _∙_}
 use Prim.Native.Nat.{ℕ}
 use denote.Ref.{now}
-use Rattle.stand.specs.Hash.{digestOf, foldWords}
+use Rattle.stand.specs.Hash.{digestOf, foldWords, shapeWords}
 use Rattle.stand.specs.Read.{digestCall}
 use Rattle.stand.specs.Refusal.{answer, gives}
 use Rattle.stand.proofs.Refusal.{accepted, turned}
@@ -27,7 +27,7 @@ fold-hashes-requires : tie.Need-fold-hashes-requires
 fold-hashes-requires c κs = search needs
 
 returns-2 : tie.Need-returns-2
-unfolding digestCall digestOf
+unfolding digestCall digestOf foldWords shapeWords
 returns-2 c =
     let l = c .before .before .before in
     let s = l .before .before in

@@ -11,7 +11,7 @@ use mir.Val.{toZ}
 use mir.ValLaws.{toZ-pos}
 use Rattle.stand.specs.Cells.{isEmpty, moved}
 use Rattle.stand.specs.Shape.{Below, Shape, cellAt, corner, counted, countsOf, maxChunks, product, sections, shapeOf, spotAt, wellFormed}
-use Rattle.stand.specs.Walk.{end, occupiedFrom, solid, solidAt}
+use Rattle.stand.specs.Solids.{end, occupiedFrom, solid, solidAt}
 use Rattle.stand.specs.declared.volume.Volume.{Volume}
 use Rattle.stand.specs.declared.volume.shape.Point.{Point}
 use Rattle.stand.proofs.Shape.{formed-counts, formed-opens, sections-few}

@@ -1,13 +1,13 @@
--- `stand::volume::walk::Solids::step` meets its contract.
+-- `stand::volume::solids::Solids::step` meets its contract.
 use borrow.Author.Needs.{needs}
 use mathlib.Core.Path.{sym, ap, _∙_}
 use Rattle.stand.specs.Refusal.{gives}
-use Rattle.stand.specs.Walk.{solidsCall}
+use Rattle.stand.specs.Solids.{solidsCall}
 use Rattle.stand.proofs.Read.{listed}
 use Rattle.stand.proofs.Refusal.{accepted, turned}
-use Rattle.stand.proofs.Walk.{no-more, one-more}
-use Rattle.stand.proofs.volume.walk.Solids.step.Statement.{statement}
-use Rattle.stand.proofs.volume.walk.Solids.step.Tie as tie
+use Rattle.stand.proofs.Solids.{no-more, one-more}
+use Rattle.stand.proofs.volume.solids.Solids.step.Statement.{statement}
+use Rattle.stand.proofs.volume.solids.Solids.step.Tie as tie
 
 list-code-requires : tie.Need-list-code-requires
 list-code-requires c κs = search needs

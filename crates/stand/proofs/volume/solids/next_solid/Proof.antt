@@ -1,12 +1,12 @@
--- `stand::volume::walk::next_solid` meets its contract.
+-- `stand::volume::solids::next_solid` meets its contract.
 use borrow.Author.Needs.{needs}
 use mathlib.Core.Path.{_≡_, refl, sym, _∙_}
 use Prim.Native.Nat.{_-_}
 use lib.ListN.{length}
-use Rattle.stand.specs.Walk.{occupiedFrom}
-use Rattle.stand.proofs.Walk.{here, onward, past}
-use Rattle.stand.proofs.volume.walk.next_solid.Statement.{statement}
-use Rattle.stand.proofs.volume.walk.next_solid.Tie as tie
+use Rattle.stand.specs.Solids.{occupiedFrom}
+use Rattle.stand.proofs.Solids.{here, onward, past}
+use Rattle.stand.proofs.volume.solids.next_solid.Statement.{statement}
+use Rattle.stand.proofs.volume.solids.next_solid.Tie as tie
 
 abbrev Inv-loop : tie.InvT-loop
 Inv-loop cells from i₀ i = occupiedFrom cells from (length cells - from) ≡ occupiedFrom cells i (length cells - i)

@@ -9,7 +9,7 @@ use Rattle.stand.specs.Refusal.{Answer, answer, first, gives, listRules,
 use Rattle.stand.specs.Shape.{Shape, cellAt, shapeOf}
 use Rattle.stand.specs.declared.Cell.{Cell}
 use Rattle.stand.specs.declared.volume.Volume.{Volume}
-use Rattle.stand.specs.declared.volume.walk.SolidStep as W
+use Rattle.stand.specs.declared.volume.solids.SolidStep as W
 
 -- an occupied cell, its finish, and the index after it
 pub data Solid : Type 0 where

@@ -1,9 +1,9 @@
--- `stand::volume::walk::cell_at` meets its contract.
+-- `stand::volume::solids::cell_at` meets its contract.
 use borrow.Author.Needs.{needs}
 use mathlib.Core.Path.{_∙_}
-use Rattle.stand.proofs.Walk.{in-section, cell-of}
-use Rattle.stand.proofs.volume.walk.cell_at.Statement.{statement}
-use Rattle.stand.proofs.volume.walk.cell_at.Tie as tie
+use Rattle.stand.proofs.Solids.{in-section, cell-of}
+use Rattle.stand.proofs.volume.solids.cell_at.Statement.{statement}
+use Rattle.stand.proofs.volume.solids.cell_at.Tie as tie
 
 counts-requires : tie.Need-counts-requires
 counts-requires c κs = search needs

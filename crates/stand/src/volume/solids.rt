@@ -3,7 +3,7 @@ ghost use mathlib.Core.Path.{_≡_};
 ghost use mathlib.Core.Bool.{true};
 ghost use Prim.Native.Nat.{_-_, _<_, _*_};
 ghost use lib.ListN.{length};
-ghost use Rattle.stand.specs.Walk.{occupiedFrom, solidStep, solidsCall};
+ghost use Rattle.stand.specs.Solids.{occupiedFrom, solidStep, solidsCall};
 ghost use Rattle.stand.specs.Shape.{cellAt, sections, shapeOf, wellFormed};
 use crate::Cell;
 use crate::Voxel;
@@ -26,7 +26,7 @@ pub enum SolidStep {
     Refused(u32),
 }
 
-// The first occupied index from `from` on, at the length if there is none.
+// The first occupied index from `from` on; none below the length if there is none.
 fn next_solid(cells: &[u16], from: usize) -> usize
     ensures { λ r. ⌜ r ≡ occupiedFrom (now (cells .entry)) from (length (now (cells .entry)) - from) ⌝ }
 {
@@ -58,7 +58,7 @@ fn cell_at(v: Volume, i: usize) -> Cell
 }
 
 impl Solids {
-    // The start of a walk. Rules out a walk that leaves out the first cell.
+    // The start of a walk. Rules out a walk that leaves out the first slot, and one that starts at the end.
     pub fn new() -> Self
         ensures { λ r. ⌜ r .next ≡ 0 ⌝ }
     {
