@@ -5,6 +5,7 @@ pub mod Fill
 pub mod Formed
 pub mod Kept
 pub mod Levels
+pub mod Opened
 pub mod Opening
 pub mod Read
 pub mod Refusal
