@@ -1,7 +1,8 @@
 -- Laws of setting a cell: where a change is safe, what it keeps, and what a set comes to by its tests.
 use mathlib.Core.Logic.{_≢_}
-use mathlib.Core.Path.{_≡_, refl, sym, _∙_}
+use mathlib.Core.Path.{_≡_, refl, sym, ap, _∙_}
 use mathlib.Core.Bool.{Bool, true, false, cond, and-false, false≢true}
+use mathlib.Core.List.{List, _++_}
 use Prim.Native.Nat.{ℕ, zero, suc, _+_, _*_, _≤_, _<_}
 use native.Mathlib.Omega.{arith}
 use borrow.Author.Tests.{eq-eqb, ne-eqb, eqb-true, eqb-false, not-false}
@@ -9,13 +10,13 @@ use lib.Dec.{eqb}
 use lib.ListN.{length, getD, length-set}
 use lib.Seq.{getD-set-same, getD-set-other}
 use Rattle.stand.specs.Edit.{Edited, Storable, advanced, changed, edited, editedOf, fitting, lastGeneration, look, put, setCall, setDef, setRefusal}
-use Rattle.stand.specs.Refusal.{first, gives, refused}
+use Rattle.stand.specs.Refusal.{Rule, first, gives, refused}
 use Rattle.stand.specs.Shape.{Shape, inside, placeOf, sections, shapeOf, slot, wellFormed}
-use Rattle.stand.specs.Storage.{Outcome, State, lengthsOf, outcomeOf, shape, storage}
+use Rattle.stand.specs.Storage.{Outcome, State, lengthsOf, outcomeOf, shape, storage, storageRules}
 use Rattle.stand.specs.declared.Cell.{Cell}
 use Rattle.stand.specs.declared.volume.shape.Place.the-variants as P
 use Rattle.stand.proofs.Formed.{placed-at, placed-out}
-use Rattle.stand.proofs.Refusal.{passes}
+use Rattle.stand.proofs.Refusal.{first-part, passes}
 use Rattle.stand.proofs.Shape.{formed-opens, sections-few, sections-some, slot-inj, slot-lt}
 use Rattle.stand.proofs.Storage.{Fitting, fits-apart}
 
@@ -147,36 +148,53 @@ module _ (s : State) (c : Cell) (v : ℕ) where
         put-other s (slot (shape s) c) v (slot (shape s) d)
         (λ e. n (slot-inj (shape s) d c (formed-opens (s .volume) ok) h at e))
 
+-- ---- a call whose table begins with the rules of storage
+
+-- a number that is not 0 turns an edit back
+edited-turned : (n : ℕ) (s : State) (e : Edited) → (n ≡ 0 → ⊥) → outcomeOf (refused n) s ≡ edited n s e
+unfolding edited
+edited-turned zero s e h = absurd (h refl)
+edited-turned (suc n) s e h = refl
+
+module _ (s : State) {n : ℕ} (e : n ≡ first (storageRules (s .volume) (lengthsOf (storage s)))) where
+  -- the number that they give is the call's
+  pub storage-turned : (qs : List Rule) (d : Edited) → (n ≡ 0 → ⊥) → outcomeOf (refused n) s ≡ edited (first (storageRules (s .volume) (lengthsOf (storage s)) ++ qs)) s d
+  storage-turned qs d h =
+      edited-turned n s d h
+      ∙ ap (λ (m : ℕ). edited m s d) (e ∙ sym (first-part (storageRules (s .volume) (lengthsOf (storage s))) qs (λ z. h (e ∙ z))))
+
+  -- where they give none, the state is as it should be
+  pub storage-passed : n ≡ 0 → (wellFormed (s .volume) ≡ true) × (fitting s ≡ true)
+  unfolding fitting
+  storage-passed z =
+      let p = passes _ 2 _ (sym e ∙ z) in
+      let q = passes _ 3 _ (p .1) in
+      (not-false _ (p .0), not-false _ (q .0))
+
 -- ---- what a set comes to, one law for each return of the code
 
-module _ (s : State) (c : Cell) (v : ℕ) where
-  pub refuse-3 : wellFormed (s .volume) ≡ false → outcomeOf (refused 3) s ≡ setCall s c v
+pub set-turned : (s : State) (c : Cell) (v : ℕ) {n : ℕ} → n ≡ first (storageRules (s .volume) (lengthsOf (storage s))) → (n ≡ 0 → ⊥) → outcomeOf (refused n) s ≡ setCall s c v
+unfolding setCall setRefusal fitting
+set-turned s c v e h = storage-turned s e _ _ h
+
+module _ (s : State) (c : Cell) (v : ℕ) (ok : wellFormed (s .volume) ≡ true) (fit : fitting s ≡ true) where
+  pub refuse-5 : placeOf (shape s) c ≡ P.Outside → outcomeOf (refused 5) s ≡ setCall s c v
   unfolding setCall setRefusal first edited
-  refuse-3 e = rw e
+  refuse-5 e = rw (ok, fit, placed-out (shape s) c e)
 
-  module _ (ok : wellFormed (s .volume) ≡ true) where
-    pub refuse-4 : fitting s ≡ false → outcomeOf (refused 4) s ≡ setCall s c v
-    unfolding setCall setRefusal first edited
-    refuse-4 e = rw (ok, e)
+  module _ (i : ℕ) (at : placeOf (shape s) c ≡ P.At i) where
+    pub unchanged : getD (s .cells) i 0 ≡ v → outcomeOf (gives 0) s ≡ setCall s c v
+    unfolding setCall setRefusal first edited setDef put look
+    unchanged e = let p = placed-at (shape s) c i at in rw (ok, fit, p .0, p .1, eq-eqb _ _ e, and-false)
 
-    module _ (fit : fitting s ≡ true) where
-      pub refuse-5 : placeOf (shape s) c ≡ P.Outside → outcomeOf (refused 5) s ≡ setCall s c v
-      unfolding setCall setRefusal first edited
-      refuse-5 e = rw (ok, fit, placed-out (shape s) c e)
+    module _ (other : getD (s .cells) i 0 ≡ v → ⊥) where
+      pub refuse-6 : s .volume .generation ≡ lastGeneration → outcomeOf (refused 6) s ≡ setCall s c v
+      unfolding setCall setRefusal first edited look
+      refuse-6 e = let p = placed-at (shape s) c i at in rw (ok, fit, p .0, p .1, ne-eqb _ _ other, eq-eqb _ _ e)
 
-      module _ (i : ℕ) (at : placeOf (shape s) c ≡ P.At i) where
-        pub unchanged : getD (s .cells) i 0 ≡ v → outcomeOf (gives 0) s ≡ setCall s c v
-        unfolding setCall setRefusal first edited setDef put look
-        unchanged e = let p = placed-at (shape s) c i at in rw (ok, fit, p .0, p .1, eq-eqb _ _ e, and-false)
-
-        module _ (other : getD (s .cells) i 0 ≡ v → ⊥) where
-          pub refuse-6 : s .volume .generation ≡ lastGeneration → outcomeOf (refused 6) s ≡ setCall s c v
-          unfolding setCall setRefusal first edited look
-          refuse-6 e = let p = placed-at (shape s) c i at in rw (ok, fit, p .0, p .1, ne-eqb _ _ other, eq-eqb _ _ e)
-
-          pub change-at : (s .volume .generation ≡ lastGeneration → ⊥) → outcomeOf (gives 1) (changed s i v) ≡ setCall s c v
-          unfolding setCall setRefusal first edited setDef put look
-          change-at n = let p = placed-at (shape s) c i at in rw (ok, fit, p .0, p .1, ne-eqb _ _ other, ne-eqb _ _ n)
+      pub change-at : (s .volume .generation ≡ lastGeneration → ⊥) → outcomeOf (gives 1) (changed s i v) ≡ setCall s c v
+      unfolding setCall setRefusal first edited setDef put look
+      change-at n = let p = placed-at (shape s) c i at in rw (ok, fit, p .0, p .1, ne-eqb _ _ other, ne-eqb _ _ n)
 
 -- ---- calls that edit
 

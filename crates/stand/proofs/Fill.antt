@@ -19,13 +19,13 @@ use Rattle.stand.specs.Fill.{Fillable, Inside, Spanned, andThen, boxCell
 use Rattle.stand.specs.Refusal.{first, gives, refused}
 use Rattle.stand.specs.Shape.{Below, Ranged, Shape, Stored, cellFrom, chunksIn, chunksOn, clampAt, clampOn, clampSpot, counted, countsOf, inside, levelsOf, maxChunks, opens, pointOf, product, sections, shapeOf, slot, slotAt, wellFormed}
 use Rattle.stand.specs.Sound.{Sound}
-use Rattle.stand.specs.Storage.{Outcome, State, lengthsOf, outcomeOf, shape, storage}
+use Rattle.stand.specs.Storage.{Outcome, State, lengthsOf, outcomeOf, shape, storage, storageRules}
 use Rattle.stand.specs.declared.Cell.{Cell}
 use Rattle.stand.specs.declared.volume.Volume.{Volume}
 use Rattle.stand.specs.declared.volume.shape.Point.{Point}
 use Rattle.stand.specs.declared.volume.shape.Region.{Region}
 use Rattle.stand.proofs.Kept.{set-sound}
-use Rattle.stand.proofs.Edit.{by-edited, put-count, put-generation, set-fitting, set-formed, set-keeps, set-shape, storable}
+use Rattle.stand.proofs.Edit.{by-edited, put-count, put-generation, set-fitting, set-formed, set-keeps, set-shape, storable, storage-turned}
 use Rattle.stand.proofs.Levels.{clamp-law}
 use Rattle.stand.proofs.Shape.{chunks-some, formed-counts, formed-opens, goods, inside-from, sections-few, slot-at-lt, slot-from, stored}
 
@@ -405,24 +405,18 @@ box-fillable s k ok fit i g h = record { formed = ok; fits = fit; x = i .x; y = 
 
 -- ---- a fill, by the code's tests
 
-module _ (s : State) (a b : Cell) (v : ℕ) where
-  pub fill-3 : wellFormed (s .volume) ≡ false → outcomeOf (refused 3) s ≡ fillCall s a b v
-  unfolding fillCall fillRefusal first edited
-  fill-3 e = rw e
+pub fill-turned : (s : State) (a b : Cell) (v : ℕ) {n : ℕ} → n ≡ first (storageRules (s .volume) (lengthsOf (storage s))) → (n ≡ 0 → ⊥) → outcomeOf (refused n) s ≡ fillCall s a b v
+unfolding fillCall fillRefusal fitting
+fill-turned s a b v e h = storage-turned s e _ _ h
 
-  module _ (ok : wellFormed (s .volume) ≡ true) where
-    pub fill-4 : fitting s ≡ false → outcomeOf (refused 4) s ≡ fillCall s a b v
-    unfolding fillCall fillRefusal first edited
-    fill-4 e = rw (ok, e)
+module _ (s : State) (a b : Cell) (v : ℕ) (ok : wellFormed (s .volume) ≡ true) (fit : fitting s ≡ true) (k : Region) (e : k ≡ boxOf (shape s) a b) where
+  pub fill-6 : lastGeneration - s .volume .generation < k .count .x * k .count .y * k .count .z → outcomeOf (refused 6) s ≡ fillCall s a b v
+  unfolding fillCall fillRefusal first edited cellsIn product
+  fill-6 h = rw (ok, fit, ← e, lt-ltb _ _ h)
 
-    module _ (fit : fitting s ≡ true) (k : Region) (e : k ≡ boxOf (shape s) a b) where
-      pub fill-6 : lastGeneration - s .volume .generation < k .count .x * k .count .y * k .count .z → outcomeOf (refused 6) s ≡ fillCall s a b v
-      unfolding fillCall fillRefusal first edited cellsIn product
-      fill-6 h = rw (ok, fit, ← e, lt-ltb _ _ h)
-
-      pub fill-done : k .count .x * k .count .y * k .count .z ≤ lastGeneration - s .volume .generation → {n : ℕ} {t : State} → editedOf n t ≡ setEach (editedOf 0 s) (solidCells (shape s) (k .low) (k .count .x) (k .count .y) (k .count .z)) v → outcomeOf (gives n) t ≡ fillCall s a b v
-      unfolding fillCall fillRefusal first edited fillDef cellsIn product boxCells
-      fill-done h d = rw (ok, fit, ← e, le-ltb _ _ h) (ap (λ (f : Edited). outcomeOf (gives (f .count)) (f .state)) d)
+  pub fill-done : k .count .x * k .count .y * k .count .z ≤ lastGeneration - s .volume .generation → {n : ℕ} {t : State} → editedOf n t ≡ setEach (editedOf 0 s) (solidCells (shape s) (k .low) (k .count .x) (k .count .y) (k .count .z)) v → outcomeOf (gives n) t ≡ fillCall s a b v
+  unfolding fillCall fillRefusal first edited fillDef cellsIn product boxCells
+  fill-done h d = rw (ok, fit, ← e, le-ltb _ _ h) (ap (λ (f : Edited). outcomeOf (gives (f .count)) (f .state)) d)
 
 -- ---- a sound stand stays so
 

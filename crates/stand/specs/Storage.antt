@@ -1,12 +1,12 @@
 -- What a stand holds: document 01, 'The stand', header and storage.
 use Prim.Native.Nat.{ℕ, _*_}
-use mathlib.Core.Bool.{Bool, _&&_}
-use mathlib.Core.List.{List}
+use mathlib.Core.Bool.{Bool, _&&_, not}
+use mathlib.Core.List.{List, [], _∷_}
 use lib.Dec.{eqb}
 use lib.IntN.{pos}
 use lib.ListN.{length, replicate}
-use Rattle.stand.specs.Refusal.{Answer}
-use Rattle.stand.specs.Shape.{Shape, counted, sections, shapeOf}
+use Rattle.stand.specs.Refusal.{Answer, Rule, _⇒_}
+use Rattle.stand.specs.Shape.{Shape, counted, sections, shapeOf, wellFormed}
 use Rattle.stand.specs.declared.volume.Extent.{Extent}
 use Rattle.stand.specs.declared.volume.Volume.{Volume}
 use Rattle.stand.specs.declared.volume.shape.Point.{Point}
@@ -63,6 +63,10 @@ lengthsOf s =
 -- storage for n sections: 4,096 cells each, and one of each other list
 unfoldable pub storageFits : ℕ → Lengths → Bool
 storageFits n l = eqb (l .cells) (n * 4096) && (eqb (l .hashes) n && (eqb (l .versions) n && (eqb (l .log) n && eqb (l .last) n)))
+
+-- refusals of a call that is given a header and storage of these lengths
+abbrev pub storageRules : Volume → Lengths → List Rule
+storageRules v l = (not (wellFormed v) ⇒ 3) ∷ (not (storageFits (sections (shapeOf v)) l) ⇒ 4) ∷ []
 
 -- ---- what a call that writes comes to: its answer, and the state after it
 

@@ -11,10 +11,8 @@ use crate::volume::answer::SetAnswer;
 use crate::volume::answer::SetDone;
 use crate::volume::hash::term;
 use crate::volume::shape::Place;
-use crate::volume::shape::chunk_total;
-use crate::volume::shape::is_well_formed;
 use crate::volume::shape::place_of;
-use crate::volume::storage::lengths_fit;
+use crate::volume::storage::storage_code;
 
 // A hash with the term of a finish taken in or out.
 fn toggle(within: usize, finish: u16, hash: u64) -> u64
@@ -113,6 +111,12 @@ pub(crate) fn put_at(
     }
 }
 
+fn done(answer: SetAnswer, volume: Volume) -> SetDone
+    ensures { λ r. ⌜ r ≡ record { answer = answer; volume = volume } ⌝ }
+{
+    SetDone { answer, volume }
+}
+
 impl Volume {
     // Puts `voxel` in `cell`. Rules out a set that stores nothing, and one that logs another chunk.
     pub fn set(
@@ -127,49 +131,28 @@ impl Volume {
     ) -> SetDone
         ensures { λ r. ⌜ outcomeOf (setAnswer (r .answer)) (stateOf (r .volume) (now (cells .exit)) (now (hashes .exit)) (now (versions .exit)) (now (log .exit)) (now (last .exit))) ≡ setCall (stateOf self (now (cells .entry)) (now (hashes .entry)) (now (versions .entry)) (now (log .entry)) (now (last .entry))) cell (voxel .0) ⌝ }
     {
-        if !is_well_formed(self) {
-            return SetDone {
-                answer: SetAnswer::Refused(3),
-                volume: self,
-            };
-        }
-        let n = chunk_total(self);
-        if !lengths_fit(
-            n,
+        let code = storage_code(
+            self,
             cells.len(),
             hashes.len(),
             versions.len(),
             log.len(),
             last.len(),
-        ) {
-            return SetDone {
-                answer: SetAnswer::Refused(4),
-                volume: self,
-            };
+        );
+        if code != 0 {
+            return done(SetAnswer::Refused(code), self);
         }
         let Place::At(i) = place_of(self, cell) else {
-            return SetDone {
-                answer: SetAnswer::Refused(5),
-                volume: self,
-            };
+            return done(SetAnswer::Refused(5), self);
         };
         let finish = voxel.0;
         if cells[i] == finish {
-            return SetDone {
-                answer: SetAnswer::Unchanged,
-                volume: self,
-            };
+            return done(SetAnswer::Unchanged, self);
         }
         if self.generation == 0xffff_ffff_ffff_ffff {
-            return SetDone {
-                answer: SetAnswer::Refused(6),
-                volume: self,
-            };
+            return done(SetAnswer::Refused(6), self);
         }
         let next = store(self, cells, hashes, versions, log, last, i, finish);
-        SetDone {
-            answer: SetAnswer::Changed,
-            volume: next,
-        }
+        done(SetAnswer::Changed, next)
     }
 }

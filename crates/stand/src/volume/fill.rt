@@ -16,13 +16,11 @@ use crate::volume::edit::Edit;
 use crate::volume::edit::put_at;
 use crate::volume::shape::Point;
 use crate::volume::shape::Region;
-use crate::volume::shape::chunk_total;
 use crate::volume::shape::clamp_on;
 use crate::volume::shape::counts;
-use crate::volume::shape::is_well_formed;
 use crate::volume::shape::levels;
 use crate::volume::shape::slot_at;
-use crate::volume::storage::lengths_fit;
+use crate::volume::storage::storage_code;
 
 // One axis of a box.
 pub(crate) struct Span {
@@ -206,6 +204,12 @@ fn fill_solid(
     }
 }
 
+fn done(answer: NumberAnswer, volume: Volume) -> FillDone
+    ensures { λ r. ⌜ r ≡ record { answer = answer; volume = volume } ⌝ }
+{
+    FillDone { answer, volume }
+}
+
 impl Volume {
     // Every cell of the box between two corners, clamped to the stand, takes a finish. Rules out a box that is cut to the stand, and one filled x outermost.
     pub fn fill(
@@ -221,53 +225,28 @@ impl Volume {
     ) -> FillDone
         ensures { λ r. ⌜ outcomeOf (numberAnswer (r .answer)) (stateOf (r .volume) (now (cells .exit)) (now (hashes .exit)) (now (versions .exit)) (now (log .exit)) (now (last .exit))) ≡ fillCall (stateOf self (now (cells .entry)) (now (hashes .entry)) (now (versions .entry)) (now (log .entry)) (now (last .entry))) from to (voxel .0) ⌝ }
     {
-        if !is_well_formed(self) {
-            return FillDone {
-                answer: NumberAnswer::Refused(3),
-                volume: self,
-            };
-        }
-        let n = chunk_total(self);
-        if !lengths_fit(
-            n,
+        let code = storage_code(
+            self,
             cells.len(),
             hashes.len(),
             versions.len(),
             log.len(),
             last.len(),
-        ) {
-            return FillDone {
-                answer: NumberAnswer::Refused(4),
-                volume: self,
-            };
+        );
+        if code != 0 {
+            return done(NumberAnswer::Refused(code), self);
         }
         let k = box_of(self, from, to);
-        let low = k.low;
-        let count = k.count;
-        if 0xffff_ffff_ffff_ffff - self.generation < count.x * count.y * count.z {
-            return FillDone {
-                answer: NumberAnswer::Refused(6),
-                volume: self,
-            };
+        let p = k.low;
+        let n = k.count.x;
+        let m = k.count.y;
+        let l = k.count.z;
+        if 0xffff_ffff_ffff_ffff - self.generation < n * m * l {
+            return done(NumberAnswer::Refused(6), self);
         }
         let finish = voxel.0;
-        let e = fill_solid(
-            self,
-            cells,
-            hashes,
-            versions,
-            log,
-            last,
-            low,
-            count.x,
-            count.y,
-            count.z,
-            finish,
-        );
+        let e = fill_solid(self, cells, hashes, versions, log, last, p, n, m, l, finish);
         let next = e.volume;
-        FillDone {
-            answer: NumberAnswer::Is(e.count),
-            volume: next,
-        }
+        done(NumberAnswer::Is(e.count), next)
     }
 }

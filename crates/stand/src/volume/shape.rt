@@ -53,7 +53,8 @@ pub(crate) fn levels(c: Cell) -> Point
     Point { x, y, z }
 }
 
-pub(crate) fn counts(e: Extent) -> Point
+// Sizes or counts as numbers, 0 for a negative one. Rules out a magnitude, and two axes swapped.
+pub fn counts(e: Extent) -> Point
     ensures { λ r. ⌜ (r ≡ countsOf e) × Below 2147483648 r ⌝ }
 {
     let x = count(e.x);
@@ -227,4 +228,11 @@ pub(crate) fn list_code(per: u64, v: Volume, len: usize) -> u32
         return 4;
     }
     0
+}
+
+// The refusal (3, 4) of a header and its cells, 0 for none. Rules out 4 for a header that 3 refuses, and 0 for cells too many.
+pub fn cells_code(v: Volume, len: usize) -> u32
+    ensures { λ r. ⌜ r ≡ first (listRules 4096 v len) ⌝ }
+{
+    list_code(CHUNK_CELLS, v, len)
 }

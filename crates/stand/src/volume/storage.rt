@@ -2,9 +2,13 @@
 ghost use mathlib.Core.Path.{_≡_};
 ghost use Prim.Native.Nat.{_≤_};
 ghost use lib.ListN.{length, replicate};
+ghost use Rattle.stand.specs.Refusal.{first};
 ghost use Rattle.stand.specs.Shape.{maxChunks};
-ghost use Rattle.stand.specs.Storage.{storageFits};
+ghost use Rattle.stand.specs.Storage.{storageFits, storageRules};
 use crate::volume::CHUNK_CELLS;
+use crate::volume::Volume;
+use crate::volume::shape::chunk_total;
+use crate::volume::shape::is_well_formed;
 
 // Storage of the lengths that n chunks need.
 pub(crate) fn lengths_fit(
@@ -31,6 +35,26 @@ pub(crate) fn lengths_fit(
         return false;
     }
     last as u64 == n
+}
+
+// The refusal of a header and of storage with these lengths, 0 for none.
+pub(crate) fn storage_code(
+    v: Volume,
+    cells: usize,
+    hashes: usize,
+    versions: usize,
+    log: usize,
+    last: usize,
+) -> u32
+    ensures { λ r. ⌜ r ≡ first (storageRules v (record { cells = cells; hashes = hashes; versions = versions; log = log; last = last })) ⌝ }
+{
+    if !is_well_formed(v) {
+        return 3;
+    }
+    if !lengths_fit(chunk_total(v), cells, hashes, versions, log, last) {
+        return 4;
+    }
+    0
 }
 
 pub(crate) fn zero_u16(s: &mut [u16])

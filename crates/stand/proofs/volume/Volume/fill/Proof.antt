@@ -1,74 +1,76 @@
 -- `stand::volume::Volume::fill` meets its contract.
-use mathlib.Core.Path.{_≡_, sym, _∙_}
+use mathlib.Core.Path.{_≡_}
 use mathlib.Core.Bool.{true}
 use Prim.Native.Nat.{_*_, _^_, _<_}
 use native.Mathlib.Omega.{arith}
 use borrow.Author.Needs.{needs}
-use borrow.Author.Tests.{not-true, not-false}
 use denote.Ref.{now}
 use Rattle.stand.specs.Edit.{fitting}
 use Rattle.stand.specs.Shape.{wellFormed}
 use Rattle.stand.specs.Storage.{State, stateOf}
-use Rattle.stand.proofs.Fill.{box-fillable, box-fits, fill-3, fill-4, fill-6, fill-done}
+use Rattle.stand.proofs.Edit.{storage-passed}
+use Rattle.stand.proofs.Fill.{box-fillable, box-fits, fill-6, fill-done, fill-turned}
 use Rattle.stand.proofs.volume.Volume.fill.Statement.{statement}
 use Rattle.stand.proofs.volume.Volume.fill.Tie as tie
 
+-- the state at entry
 abbrev S : tie.Start → State
-S c =
-    stateOf (c .args .self) (now (c .args .cells)) (now (c .args .hashes)) (now (c .args .versions)) (now (c .args .log)) (now (c .args .last))
+S c = stateOf (c .args .self) (now (c .args .cells)) (now (c .args .hashes)) (now (c .args .versions)) (now (c .args .log)) (now (c .args .last))
 
--- the header passed
-ok : (c : tie.Else1) → wellFormed (c .before .before .before .before .before .before .before .args .self) ≡ true
-ok c = sym (c .before .is-well-formed .ensures) ∙ not-false _ (c .if1 .left)
+abbrev start : tie.Else1 → tie.Start
+start c = c .before .before .before .before .before .before .before
 
--- the lengths' test, and that it passed
-fits : (c : tie.After-lengths-fit) → c .lengths-fit .result ≡ fitting (S (c .before .before .before .before .before .before .before .before .before))
-unfolding fitting
-fits c = rw (← c .before .chunk-total .ensures .0) (c .lengths-fit .ensures)
+storage-code-requires : tie.Need-storage-code-requires
+storage-code-requires c κs = search needs
 
-fit : (c : tie.Else2) → fitting (S (c .before .before .before .before .before .before .before .before .before .before)) ≡ true
-fit c = sym (fits (c .before)) ∙ not-false _ (c .if2 .left)
+done-requires : tie.Need-done-requires
+done-requires c κs = search needs
+
+returns : tie.Need-returns
+returns c =
+    let s = c .before .before .before .before .before .before .before .before in
+    rw (c .done .ensures) (fill-turned (S s) _ _ _ (c .before .before .storage-code .ensures) (c .before .if1 .taken))
+
+ok : (c : tie.Else1) → wellFormed (start c .args .self) ≡ true
+ok c = storage-passed (S (start c)) (c .before .storage-code .ensures) (c .if1 .left) .0
+
+fit : (c : tie.Else1) → fitting (S (start c)) ≡ true
+fit c = storage-passed (S (start c)) (c .before .storage-code .ensures) (c .if1 .left) .1
+
+box-of-requires : tie.Need-box-of-requires
+box-of-requires c κs = ok c
 
 -- the products of the box's sides fit
 products : (c : tie.After-box-of) → (c .box-of .result .count .x * c .box-of .result .count .y < 2 ^ 64) × (c .box-of .result .count .x * c .box-of .result .count .y * c .box-of .result .count .z < 2 ^ 64)
-products c = box-fits (c .before .before .before .before .before .before .before .before .before .before .before .args .self) (c .box-of .result) (ok (c .before .before .before .before)) (c .box-of .ensures .1)
+products c = box-fits (start (c .before) .args .self) (c .box-of .result) (ok (c .before)) (c .box-of .ensures .1)
 
-is-well-formed-requires : tie.Need-is-well-formed-requires
-is-well-formed-requires c κs = search needs
+sub-if2 : tie.Need-sub-if2
+sub-if2 c = search needs
 
-returns : tie.Need-returns
-returns c = fill-3 (S (c .before .before .before .before .before .before .before)) _ _ _ (sym (c .before .is-well-formed .ensures) ∙ not-true _ (c .if1 .taken))
+mul-if2 : tie.Need-mul-if2
+mul-if2 c = record { fits = products (c .before .before) .0 }
 
-chunk-total-requires : tie.Need-chunk-total-requires
-chunk-total-requires c κs = ok c
+mul-if2-2 : tie.Need-mul-if2-2
+mul-if2-2 c = record { fits = products (c .before .before) .1 }
 
-lengths-fit-requires : tie.Need-lengths-fit-requires
-lengths-fit-requires c κs = search needs
+done-requires-2 : tie.Need-done-requires-2
+done-requires-2 c κs = search needs
 
 returns-2 : tie.Need-returns-2
-returns-2 c = fill-4 (S (c .before .before .before .before .before .before .before .before .before .before)) _ _ _ (ok (c .before .before .before)) (sym (fits (c .before)) ∙ not-true _ (c .if2 .taken))
-
-box-of-requires : tie.Need-box-of-requires
-box-of-requires c κs = ok (c .before .before .before)
-
-sub-if3 : tie.Need-sub-if3
-sub-if3 c = search needs
-
-mul-if3 : tie.Need-mul-if3
-mul-if3 c = record { fits = products (c .before .before .before .before) .0 }
-
-mul-if3-2 : tie.Need-mul-if3-2
-mul-if3-2 c = record { fits = products (c .before .before .before .before .before) .1 }
-
-returns-3 : tie.Need-returns-3
-returns-3 c =
-    let k = c .before .before .before .before .before .before in
-    fill-6 (S (k .before .before .before .before .before .before .before .before .before .before .before)) _ _ _ (ok (k .before .before .before .before)) (fit (k .before)) (k .box-of .result) (k .box-of .ensures .0) (c .if3 .taken)
+returns-2 c =
+    let k = c .before .before .before .before in
+    let f = k .before in
+    rw (c .done2 .ensures) (fill-6 (S (start f)) _ _ _ (ok f) (fit f) (k .box-of .result) (k .box-of .ensures .0) (c .before .if2 .taken))
 
 fill-solid-requires : tie.Need-fill-solid-requires
 fill-solid-requires c κs =
-    let k = c .before .before .before .before .before .before .before .before .before .before .before in
-    box-fillable (S (k .before .before .before .before .before .before .before .before .before .before .before)) (k .box-of .result) (ok (k .before .before .before .before)) (fit (k .before)) (k .box-of .ensures .1) (omega (arith, c .before .before .before .before .before .before .before .before .struct-known)) (c .before .before .before .before .before .if3 .left)
+    let g = c .before .before .before .before .before in
+    let k = g .before .before .before in
+    let f = k .before in
+    box-fillable (S (start f)) (k .box-of .result) (ok f) (fit f) (k .box-of .ensures .1) (omega (arith, g .before .struct-known)) (g .if2 .left)
+
+done-requires-3 : tie.Need-done-requires-3
+done-requires-3 c κs = search needs
 
 same-length : tie.Need-same-length
 same-length c = search needs
@@ -85,29 +87,33 @@ same-length-4 c = search needs
 same-length-5 : tie.Need-same-length-5
 same-length-5 c = search needs
 
-returns-4 : tie.Need-returns-4
-returns-4 c =
-    let k = c .before .before .before .before .before .before .before .before .before .before .before .before .before .before .before .before .before .before .before .before .before .before .before in
-    fill-done (S (k .before .before .before .before .before .before .before .before .before .before .before)) _ _ _ (ok (k .before .before .before .before)) (fit (k .before)) (k .box-of .result) (k .box-of .ensures .0) (c .before .before .before .before .before .before .before .before .before .before .before .before .before .before .before .before .before .if3 .left) (c .before .before .before .before .before .before .before .before .before .before .before .fill-solid .ensures .0)
+returns-3 : tie.Need-returns-3
+returns-3 c =
+    let w = c .before .before .before .before .before .before .before .before .before .before .before .before in
+    let g = w .before .before .before .before .before .before in
+    let k = g .before .before .before in
+    let f = k .before in
+    rw (c .done3 .ensures)
+    (fill-done (S (start f)) _ _ _ (ok f) (fit f) (k .box-of .result) (k .box-of .ensures .0) (g .if2 .left) (w .fill-solid .ensures .0))
 
 pub fill-spec : {M : Type 1} → statement M
 fill-spec =
     tie.close
     (tie.spec
-    is-well-formed-requires
+    storage-code-requires
+    done-requires
     returns
-    chunk-total-requires
-    lengths-fit-requires
-    returns-2
     box-of-requires
-    sub-if3
-    mul-if3
-    mul-if3-2
-    returns-3
+    sub-if2
+    mul-if2
+    mul-if2-2
+    done-requires-2
+    returns-2
     fill-solid-requires
+    done-requires-3
     same-length
     same-length-2
     same-length-3
     same-length-4
     same-length-5
-    returns-4)
+    returns-3)
