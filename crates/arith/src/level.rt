@@ -1,7 +1,7 @@
 // Signed 32-bit numbers as unsigned ones, so that the rest is unsigned arithmetic.
 ghost use mathlib.Core.Path.{_≡_};
 ghost use Prim.Native.Nat.{_<_};
-ghost use Rattle.arith.specs.Level.{levelOf, countOf, patternOf};
+ghost use Rattle.arith.specs.Level.{levelOf, countOf, numberOf, patternOf};
 
 // x + 2^31: the same order, from 0 on. Rules out x, and x with its sign dropped.
 pub fn level(x: i32) -> u64
@@ -30,4 +30,14 @@ pub fn pattern(x: i32) -> u64
         return l + 2147483648;
     }
     l - 2147483648
+}
+
+// The number of a level; past the last level the largest. Rules out a level taken for a number, and a sum that wraps.
+pub fn from_level(l: u64) -> i32
+    ensures { λ r. ⌜ r ≡ numberOf l ⌝ }
+{
+    if 4294967295 < l {
+        return 2147483647;
+    }
+    ((l as i64) - 2147483648) as i32
 }

@@ -44,7 +44,8 @@ pub enum Place {
     Outside,
 }
 
-pub(crate) fn levels(c: Cell) -> Point
+// A cell's coordinates by level. Rules out two axes swapped, and a coordinate with its sign dropped.
+pub fn levels(c: Cell) -> Point
     ensures { λ r. ⌜ (r ≡ levelsOf c) × Below 4294967296 r × Ranged c ⌝ }
 {
     let x = level(c.x);

@@ -1,0 +1,203 @@
+-- Panels by a slice's frame: as numbers, as the scan adds them, and as the part's panels.
+use mathlib.Core.Path.{_≡_, refl, sym, ap, _∙_, subst}
+use mathlib.Core.Bool.{Bool, true, false, cond}
+use mathlib.Core.List.{List, [], _∷_, _++_, append-assoc, append-nil, map, map-append}
+use Prim.Native.Nat.{ℕ, zero, suc, _+_, _*_, _-_, _/_, _≤_, _<_}
+use native.Mathlib.Nat.{add-suc, add-zero, suc-add}
+use native.Mathlib.Numerals.{add-one}
+use native.Mathlib.Omega.{arith}
+use borrow.Author.Tests.{eqb-true, eqb-false, eq-eqb, ne-eqb, le-ltb, lt-ltb}
+use lib.Dec.{eqb}
+use lib.IntN.{ℤ, pos}
+use lib.ListN.{length, length-append, length-map}
+use lib.Seq.{sets}
+use Rattle.arith.specs.Level.{numberOf}
+use Rattle.stand.specs.Sides.{firstAt, normalAt, sideNumber}
+use Rattle.mesh.specs.Claims.{ClaimPost}
+use Rattle.mesh.specs.Frame.{StepPost, Wrote, alongFrame, nextAt, quadFrom, rectOf}
+use Rattle.mesh.specs.Panels.{faceOf}
+use Rattle.mesh.specs.Part.{facing, turned}
+use Rattle.mesh.specs.Quad.{numbersOf, putQuad, writeFrom}
+use Rattle.mesh.specs.Scan.{Rect, State, clearOf, fresh, rectAt, rowTo, rowsTo, slot, stepAt}
+use Rattle.mesh.specs.declared.Quad.{Quad}
+use Rattle.mesh.specs.declared.claim.Claim.{Claim}
+use Rattle.mesh.specs.declared.scan.Frame.{Frame}
+use Rattle.mesh.specs.declared.scan.Turn.{Turn}
+use Rattle.mesh.proofs.Scanned.{row-jump, row-skip, step-claim, step-skip}
+
+-- ---- a panel's numbers
+
+side-number : (s : ℕ) → s < 6 → sideNumber (faceOf s) ≡ s
+side-number zero h = refl
+side-number (suc zero) h = refl
+side-number (suc (suc zero)) h = refl
+side-number (suc (suc (suc zero))) h = refl
+side-number (suc (suc (suc (suc zero)))) h = refl
+side-number (suc (suc (suc (suc (suc zero))))) h = refl
+side-number (suc (suc (suc (suc (suc (suc s)))))) h = absurd (omega arith)
+
+-- what the code has of a rectangle: normal, first and second, side, finish, run and rows
+pub record Values (f : Frame) (r : Rect) (a b c s x n m : ℤ) : Type 0 where
+  pub side-in : f .side < 6
+  pub normal : a ≡ numberOf (f .normal)
+  pub first : b ≡ numberOf (f .first + r .u)
+  pub second : c ≡ numberOf (f .second + r .v)
+  pub side : s ≡ pos (f .side)
+  pub finish : x ≡ pos (r .value)
+  pub run : n ≡ pos (r .run)
+  pub rows : m ≡ pos (r .rows)
+
+module _ {f : Frame} {r : Rect} {a b c s x n m : ℤ} (v : Values f r a b c s x n m) where
+  pub numbers-x : f .side < 2 → a ∷ b ∷ c ∷ s ∷ x ∷ pos 1 ∷ n ∷ m ∷ [] ≡ numbersOf (quadFrom f r)
+  unfolding numbersOf quadFrom alongFrame facing turned firstAt normalAt
+  numbers-x h =
+      let e : f .side / 2 ≡ 0 = omega arith in
+      rw (side-number (f .side) (v .side-in), e)
+      (λ i. v .normal i ∷ v .first i ∷ v .second i ∷ v .side i ∷ v .finish i ∷ pos 1 ∷ v .run i ∷ v .rows i ∷ [])
+
+  pub numbers-y : 2 ≤ f .side → f .side < 4 → b ∷ a ∷ c ∷ s ∷ x ∷ n ∷ pos 1 ∷ m ∷ [] ≡ numbersOf (quadFrom f r)
+  unfolding numbersOf quadFrom alongFrame facing turned firstAt normalAt
+  numbers-y l h =
+      let e : f .side / 2 ≡ 1 = omega arith in
+      rw (side-number (f .side) (v .side-in), e)
+      (λ i. v .first i ∷ v .normal i ∷ v .second i ∷ v .side i ∷ v .finish i ∷ v .run i ∷ pos 1 ∷ v .rows i ∷ [])
+
+  pub numbers-z : 4 ≤ f .side → b ∷ c ∷ a ∷ s ∷ x ∷ n ∷ m ∷ pos 1 ∷ [] ≡ numbersOf (quadFrom f r)
+  unfolding numbersOf quadFrom alongFrame facing turned firstAt normalAt
+  numbers-z l =
+      let e : f .side / 2 ≡ 2 = omega (arith, v .side-in) in
+      rw (side-number (f .side) (v .side-in), e)
+      (λ i. v .first i ∷ v .second i ∷ v .normal i ∷ v .side i ∷ v .finish i ∷ v .run i ∷ v .rows i ∷ pos 1 ∷ [])
+
+pub put-room : (out : List ℤ) (k : ℕ) (q : Quad) {ns : List ℤ} → k < length out / 8 → ns ≡ numbersOf q → sets out (k * 8) ns ≡ putQuad out k q
+unfolding putQuad
+put-room out k q h e = rw (lt-ltb k (length out / 8) h) (ap (sets out (k * 8)) e)
+
+pub put-full : (out : List ℤ) (k : ℕ) (q : Quad) → length out / 8 ≤ k → out ≡ putQuad out k q
+unfolding putQuad
+put-full out k q h = rw (le-ltb k (length out / 8) h)
+
+-- ---- what comes after a state
+
+abbrev pub after : State → State → State
+after s t = record { mask = t .mask; rects = s .rects ++ t .rects }
+
+step-after : (w h : ℕ) (s : State) (u v : ℕ) → stepAt w h s u v ≡ after s (stepAt w h (fresh (s .mask)) u v)
+unfolding stepAt
+step-after w h s u v = go (eqb (slot w (s .mask) u v) 0)
+  where
+    r : Rect
+    r = rectAt w h (s .mask) u v
+
+    go : (b : Bool) → cond b s (record { mask = clearOf w (s .mask) r; rects = s .rects ++ r ∷ [] })
+        ≡ after s (cond b (fresh (s .mask)) (record { mask = clearOf w (s .mask) r; rects = r ∷ [] }))
+    go true = λ i. record { mask = s .mask; rects = sym (append-nil (s .rects)) i }
+    go false = refl
+
+row-after : (w h v : ℕ) (s : State) (u : ℕ) → rowTo w h v s u ≡ after s (rowTo w h v (fresh (s .mask)) u)
+unfolding rowTo
+row-after w h v s zero = λ i. record { mask = s .mask; rects = sym (append-nil (s .rects)) i }
+row-after w h v s (suc u) =
+    let t : State = rowTo w h v (fresh (s .mask)) u in
+    ap (λ (t : State). stepAt w h t u v) (row-after w h v s u)
+    ∙ step-after w h (after s t) u v
+    ∙ (λ i. record { mask = stepAt w h (fresh (t .mask)) u v .mask; rects = append-assoc (s .rects) (t .rects) (stepAt w h (fresh (t .mask)) u v .rects) i })
+    ∙ sym (ap (after s) (step-after w h t u v))
+
+-- ---- panels written
+
+write-append : (out : List ℤ) (k : ℕ) (xs ys : List Quad) → writeFrom out k (xs ++ ys) ≡ writeFrom (writeFrom out k xs) (k + length xs) ys
+unfolding writeFrom
+write-append out k [] ys = rw add-zero
+write-append out k (x ∷ xs) ys = rw (add-suc k (length xs), ← suc-add k (length xs)) (write-append (putQuad out k x) (suc k) xs ys)
+
+pub wrote-start : (f : Frame) (m : List ℕ) (out : List ℤ) (n : ℕ) → Wrote f (fresh m) m out out n n
+unfolding writeFrom
+wrote-start f m out n = record { mask = refl; list = refl; total = sym (add-zero n) }
+
+module _ {f : Frame} {s t : State} {m₁ m₂ : List ℕ} {out₀ out₁ out₂ : List ℤ} {n₀ n₁ n₂ : ℕ} where
+  wrote-after : Wrote f s m₁ out₀ out₁ n₀ n₁ → Wrote f t m₂ out₁ out₂ n₁ n₂ → Wrote f (after s t) m₂ out₀ out₂ n₀ n₂
+  wrote-after a b =
+      record {
+        mask = b .mask;
+        list =
+            b .list
+            ∙ (λ i. writeFrom (a .list i) (a .total i) (map (quadFrom f) (t .rects)))
+            ∙ sym
+            (ap (writeFrom out₀ n₀) (map-append (quadFrom f) (s .rects) (t .rects))
+            ∙ write-append out₀ n₀ (map (quadFrom f) (s .rects)) (map (quadFrom f) (t .rects))
+            ∙ ap (λ (k : ℕ). writeFrom (writeFrom out₀ n₀ (map (quadFrom f) (s .rects))) (n₀ + k) (map (quadFrom f) (t .rects))) (length-map (s .rects) (quadFrom f)));
+        total = omega (arith, a .total, b .total, length-append (s .rects) (t .rects));
+      }
+
+-- ---- a slot, a row, the rows
+
+module _ (w h v : ℕ) (s : State) (u : ℕ) (lu : u < w) (lv : v < h) where
+  row-next : rowTo w h v s (nextAt w h (rowTo w h v s u .mask) u v) ≡ stepAt w h (rowTo w h v s u) u v
+  unfolding nextAt
+  row-next = go (eqb (slot w (rowTo w h v s u .mask) u v) 0) refl
+    where
+      t : State
+      t = rowTo w h v s u
+
+      go : (b : Bool) → eqb (slot w (t .mask) u v) 0 ≡ b → rowTo w h v s (cond b (u + 1) (u + rectAt w h (t .mask) u v .run)) ≡ stepAt w h t u v
+      go true e =
+          let z : slot w (t .mask) u v ≡ 0 = eqb-true (slot w (t .mask) u v) 0 e in
+          row-skip w h v s u z ∙ sym (step-skip w h t u v z)
+      go false e = row-jump w h v s u (rectAt w h (t .mask) u v .run) lu lv (eqb-false (slot w (t .mask) u v) 0 e) refl
+
+module _ {f : Frame} (m₀ : List ℕ) {m m′ : List ℕ} {out₀ out out′ : List ℤ} {n₀ n : ℕ} where
+  pub row-step : (v u : ℕ) {r : Turn} → u < f .width → v < f .height → Wrote f (rowTo (f .width) (f .height) v (fresh m₀) u) m out₀ out n₀ n
+      → StepPost f u v m m′ out out′ n r → Wrote f (rowTo (f .width) (f .height) v (fresh m₀) (r .next)) m′ out₀ out′ n₀ (r .count)
+  row-step v u {r} lu lv a p =
+      let w = f .width in
+      let h = f .height in
+      let t : State = rowTo w h v (fresh m₀) u in
+      let e : after t (stepAt w h (fresh m) u v) ≡ rowTo w h v (fresh m₀) (r .next) =
+      ap (λ (l : List ℕ). after t (stepAt w h (fresh l) u v)) (a .mask)
+      ∙ sym (step-after w h t u v)
+      ∙ sym (row-next w h v (fresh m₀) u lu lv)
+      ∙ ap (rowTo w h v (fresh m₀)) (sym (p .next ∙ ap (λ (l : List ℕ). nextAt w h l u v) (a .mask))) in
+      subst (λ (s : State). Wrote f s m′ out₀ out′ n₀ (r .count)) e (wrote-after a (p .wrote))
+
+  pub rows-step : (v : ℕ) {r : ℕ} → Wrote f (rowsTo (f .width) (f .height) (fresh m₀) v) m out₀ out n₀ n
+      → Wrote f (rowTo (f .width) (f .height) v (fresh m) (f .width)) m′ out out′ n r
+      → Wrote f (rowsTo (f .width) (f .height) (fresh m₀) (v + 1)) m′ out₀ out′ n₀ r
+  unfolding rowsTo
+  rows-step v {r} a b =
+      let w = f .width in
+      let h = f .height in
+      let t : State = rowsTo w h (fresh m₀) v in
+      let e : after t (rowTo w h v (fresh m) w) ≡ rowTo w h v t w =
+      ap (λ (l : List ℕ). after t (rowTo w h v (fresh l) w)) (a .mask) ∙ sym (row-after w h v t w) in
+      rw add-one (subst (λ (s : State). Wrote f s m′ out₀ out′ n₀ r) e (wrote-after a b))
+
+-- what a slot gives: nothing, or its rectangle
+module _ {f : Frame} {u v : ℕ} (lu : u < f .width) (m : List ℕ) (out : List ℤ) (count : ℕ) where
+  pub step-none : slot (f .width) m u v ≡ 0 → StepPost f u v m m out out count (record { next = u + 1; count = count })
+  unfolding nextAt
+  step-none z =
+      record {
+        wrote = subst (λ (s : State). Wrote f s m out out count count) (sym (step-skip (f .width) (f .height) (fresh m) u v z)) (wrote-start f m out count);
+        next = rw (eq-eqb (slot (f .width) m u v) 0 z);
+        low = omega arith;
+        high = omega arith;
+      }
+
+  pub step-put : {m′ : List ℕ} {out′ : List ℤ} {x : ℕ} {c : Claim} → (slot (f .width) m u v ≡ 0 → ⊥) → x ≡ slot (f .width) m u v
+      → ClaimPost m m′ (f .width) (f .height) u v c → out′ ≡ putQuad out count (quadFrom f (rectOf u v (c .run) (c .rows) x))
+      → StepPost f u v m m′ out out′ count (record { next = u + c .run; count = count + 1 })
+  unfolding nextAt rectAt writeFrom
+  step-put {m′} {out′} {x} {c} nz ex p put =
+      let w = f .width in
+      let h = f .height in
+      let e : rectOf u v (c .run) (c .rows) x ≡ rectAt w h m u v = λ i. record { u = u; v = v; run = p .run i; rows = p .rows i; value = ex i } in
+      let some = p .some-run in
+      record {
+        wrote =
+            subst (λ (s : State). Wrote f s m′ out out′ count (count + 1)) (sym (step-claim w h (fresh m) u v nz))
+            (record { mask = p .mask; list = put ∙ ap (λ (r : Rect). putQuad out count (quadFrom f r)) e; total = refl });
+        next = rw (ne-eqb (slot w m u v) 0 nz) (ap (λ (n : ℕ). u + n) (p .run));
+        low = omega arith;
+        high = p .wide;
+      }

@@ -1,0 +1,10 @@
+-- The definitions that the contracts of `mesh` cite.
+pub mod Claims
+pub mod Frame
+pub mod Merge
+pub mod Panels
+pub mod Part
+pub mod Plane
+pub mod Quad
+pub mod Scan
+pub mod Visible
