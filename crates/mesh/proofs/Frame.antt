@@ -2,28 +2,38 @@
 use mathlib.Core.Path.{_≡_, refl, sym, ap, _∙_, subst}
 use mathlib.Core.Bool.{Bool, true, false, cond}
 use mathlib.Core.List.{List, [], _∷_, _++_, append-assoc, append-nil, map, map-append}
-use Prim.Native.Nat.{ℕ, zero, suc, _+_, _*_, _-_, _/_, _≤_, _<_}
-use native.Mathlib.Nat.{add-suc, add-zero, suc-add}
+use Prim.Native.Nat.{ℕ, zero, suc, _+_, _*_, _-_, _/_, _%_, _≤_, _<_}
+use native.Mathlib.Nat.{add-assoc, add-suc, add-zero, div-eq-of-lt, mod-eq-of-lt, mul-add-div-right, mul-add-mod-self-right, mul-one, suc-add}
 use native.Mathlib.Numerals.{add-one}
 use native.Mathlib.Omega.{arith}
 use borrow.Author.Tests.{eqb-true, eqb-false, eq-eqb, ne-eqb, le-ltb, lt-ltb}
-use lib.Dec.{eqb}
-use lib.IntN.{ℤ, pos}
+use lib.Dec.{eqb, ltb}
+use lib.IntN.{ℤ, pos, _+ℤ_}
 use lib.ListN.{length, length-append, length-map}
 use lib.Seq.{sets}
-use Rattle.arith.specs.Level.{numberOf}
-use Rattle.stand.specs.Sides.{firstAt, normalAt, sideNumber}
+use mir.Syntax.{w32}
+use mir.Val.{SFits}
+use Rattle.arith.proofs.Levels.{number-sum}
+use Rattle.arith.specs.Level.{levelOf, numberOf}
+use Rattle.stand.specs.Cells.{cellOf}
+use Rattle.stand.specs.Shape.{Ranged, Shape, cellFrom, levelsOf}
+use Rattle.stand.specs.Sides.{firstAt, normalAt, secondAt, sideNumber}
+use Rattle.stand.specs.Storage.{extentOf}
+use Rattle.stand.specs.declared.volume.shape.Point.{Point}
+use Rattle.stand.specs.declared.volume.shape.Region.{Region}
 use Rattle.mesh.specs.Claims.{ClaimPost}
-use Rattle.mesh.specs.Frame.{StepPost, Wrote, alongFrame, nextAt, quadFrom, rectOf}
-use Rattle.mesh.specs.Panels.{faceOf}
-use Rattle.mesh.specs.Part.{facing, turned}
+use Rattle.mesh.specs.Frame.{Lies, ScanPost, StepPost, StepPre, Wrote, alongFrame, frameOf, nextAt, quadFrom, rectOf}
+use Rattle.mesh.specs.Merge.{Box, Cuts, cutTo, limits, total}
+use Rattle.mesh.specs.Panels.{boxesOf, faceOf, nokey, quadOf, stepsOf}
+use Rattle.mesh.specs.Part.{added, cellIn, facing, heightOf, onAxis, turned, widthOf}
 use Rattle.mesh.specs.Quad.{numbersOf, putQuad, writeFrom}
-use Rattle.mesh.specs.Scan.{Rect, State, clearOf, fresh, rectAt, rowTo, rowsTo, slot, stepAt}
+use Rattle.mesh.specs.Scan.{Rect, State, clearOf, fresh, place, rectAt, rowTo, rowsTo, scan, slot, stepAt}
 use Rattle.mesh.specs.declared.Quad.{Quad}
 use Rattle.mesh.specs.declared.claim.Claim.{Claim}
 use Rattle.mesh.specs.declared.scan.Frame.{Frame}
 use Rattle.mesh.specs.declared.scan.Turn.{Turn}
-use Rattle.mesh.proofs.Scanned.{row-jump, row-skip, step-claim, step-skip}
+use Rattle.mesh.proofs.Merged.{Each}
+use Rattle.mesh.proofs.Scanned.{Fits, asBox, row-jump, row-skip, scan-fits, scan-same, step-claim, step-skip}
 
 -- ---- a panel's numbers
 
@@ -201,3 +211,83 @@ module _ {f : Frame} {u v : ℕ} (lu : u < f .width) (m : List ℕ) (out : List 
         low = omega arith;
         high = p .wide;
       }
+
+-- ---- the frame of a slice of a part
+
+from-level : (o : ℤ) (low d : ℕ) → SFits w32 o → levelOf o + low + d < 4294967296 → numberOf (levelOf o + low + d) ≡ o +ℤ pos (low + d)
+from-level o low d f h = ap numberOf (add-assoc (levelOf o) low d) ∙ number-sum o (low + d) f (omega arith)
+
+map-through : (P : Rect → Type 0) (f : Rect → Quad) (b : Rect → Box) (g : Box → Quad) → ((q : Rect) → P q → f q ≡ g (b q)) → (qs : List Rect)
+    → Each P qs → map f qs ≡ map g (map b qs)
+map-through P f b g h [] e = refl
+map-through P f b g h (q ∷ qs) e = λ i. h q (e .0) i ∷ map-through P f b g h qs (e .1) i
+
+pub boxes-same : (w h : ℕ) (m : List ℕ) → boxesOf w h m ≡ map (asBox w) (scan w h m .rects)
+unfolding boxesOf total
+boxes-same w h m = ap (λ (n : ℕ). cutTo (limits (h ∷ w ∷ [])) nokey m (h * n) .boxes) (sym (mul-one w)) ∙ ap (λ (c : Cuts). c .boxes) (scan-same w h m)
+
+module _ (g : Shape) (r : Region) (s k : ℕ) (ranged : Ranged (g .origin)) (lies : Lies (frameOf g r s k)) where
+  module _ (u v : ℕ) (lu : u < widthOf r s) (lv : v < heightOf r s) where
+    first-in : onAxis (firstAt s) (added (levelsOf (g .origin)) (r .low)) + u < 4294967296
+    unfolding frameOf
+    first-in = omega (arith, lies .first)
+
+    second-in : onAxis (secondAt s) (added (levelsOf (g .origin)) (r .low)) + v < 4294967296
+    unfolding frameOf
+    second-in = omega (arith, lies .second)
+
+    normal-in : onAxis (normalAt s) (added (levelsOf (g .origin)) (r .low)) + k < 4294967296
+    unfolding frameOf
+    normal-in = lies .normal
+
+    cell-on : (n : ℕ) → normalAt s ≡ n → n < 3
+        → cellOf (alongFrame (frameOf g r s k) u v 0) (alongFrame (frameOf g r s k) u v 1) (alongFrame (frameOf g r s k) u v 2) ≡ cellIn g r s k u v
+    unfolding alongFrame frameOf cellIn cellFrom added facing turned firstAt secondAt
+    cell-on zero e l =
+        rw e
+        (λ i. cellOf
+        (from-level (g .origin .x) (r .low .x) k (ranged .x) (rw e at normal-in) i)
+        (from-level (g .origin .y) (r .low .y) u (ranged .y) (rw e at first-in) i)
+        (from-level (g .origin .z) (r .low .z) v (ranged .z) (rw e at second-in) i))
+    cell-on (suc zero) e l =
+        rw e
+        (λ i. cellOf
+        (from-level (g .origin .x) (r .low .x) u (ranged .x) (rw e at first-in) i)
+        (from-level (g .origin .y) (r .low .y) k (ranged .y) (rw e at normal-in) i)
+        (from-level (g .origin .z) (r .low .z) v (ranged .z) (rw e at second-in) i))
+    cell-on (suc (suc zero)) e l =
+        rw e
+        (λ i. cellOf
+        (from-level (g .origin .x) (r .low .x) u (ranged .x) (rw e at first-in) i)
+        (from-level (g .origin .y) (r .low .y) v (ranged .y) (rw e at second-in) i)
+        (from-level (g .origin .z) (r .low .z) k (ranged .z) (rw e at normal-in) i))
+    cell-on (suc (suc (suc n))) e l = absurd (omega arith)
+
+    cell-same : cellOf (alongFrame (frameOf g r s k) u v 0) (alongFrame (frameOf g r s k) u v 1) (alongFrame (frameOf g r s k) u v 2) ≡ cellIn g r s k u v
+    unfolding normalAt frameOf
+    cell-same = cell-on (normalAt s) refl (omega (arith, lies .side))
+
+  pub frame-quad : (q : Rect) → Fits (widthOf r s) (heightOf r s) q → quadFrom (frameOf g r s k) q ≡ quadOf g r s k (asBox (widthOf r s) q)
+  unfolding quadFrom quadOf asBox stepsOf frameOf
+  frame-quad q f =
+      let w = widthOf r s in
+      let lu : q .u < w = omega (arith, f .wide, f .some-run) in
+      let lv : q .v < heightOf r s = omega (arith, f .high, f .some-rows) in
+      let p : 0 < w = omega arith in
+      let a : (q .v * w + q .u) % w ≡ q .u = mul-add-mod-self-right (q .v) w (q .u) ∙ mod-eq-of-lt lu in
+      let b : (q .v * w + q .u) / w ≡ q .v = mul-add-div-right p (q .v) (q .u) ∙ rw (div-eq-of-lt lu, add-zero) in
+      rw (a, b)
+      (λ i. record {
+        cell = cell-same (q .u) (q .v) lu lv i;
+        face = faceOf s;
+        voxel = record { 0 = q .value };
+        extent = extentOf (facing s 1 (q .run) (q .rows));
+      })
+
+  -- the panels that the scan writes are those of the merging
+  pub frame-panels : (m : List ℕ) → map (quadFrom (frameOf g r s k)) (scan (widthOf r s) (heightOf r s) m .rects)
+      ≡ map (quadOf g r s k) (boxesOf (widthOf r s) (heightOf r s) m)
+  frame-panels m =
+      map-through (Fits (widthOf r s) (heightOf r s)) (quadFrom (frameOf g r s k)) (asBox (widthOf r s)) (quadOf g r s k) frame-quad
+      (scan (widthOf r s) (heightOf r s) m .rects) (scan-fits (widthOf r s) (heightOf r s) m)
+      ∙ ap (map (quadOf g r s k)) (sym (boxes-same (widthOf r s) (heightOf r s) m))

@@ -1,7 +1,9 @@
 -- The definitions that the contracts of `mesh` cite.
 pub mod Claims
+pub mod Cover
 pub mod Frame
 pub mod Merge
+pub mod Near
 pub mod Panels
 pub mod Part
 pub mod Plane
