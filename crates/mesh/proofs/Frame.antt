@@ -116,7 +116,7 @@ row-after w h v s (suc u) =
 
 -- ---- panels written
 
-write-append : (out : List ℤ) (k : ℕ) (xs ys : List Quad) → writeFrom out k (xs ++ ys) ≡ writeFrom (writeFrom out k xs) (k + length xs) ys
+pub write-append : (out : List ℤ) (k : ℕ) (xs ys : List Quad) → writeFrom out k (xs ++ ys) ≡ writeFrom (writeFrom out k xs) (k + length xs) ys
 unfolding writeFrom
 write-append out k [] ys = rw add-zero
 write-append out k (x ∷ xs) ys = rw (add-suc k (length xs), ← suc-add k (length xs)) (write-append (putQuad out k x) (suc k) xs ys)

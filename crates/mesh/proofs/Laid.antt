@@ -180,12 +180,15 @@ some : (w h q : ℕ) → q < h * w → 0 < w
 some zero h q k = absurd (omega (arith, mul-zero h))
 some (suc w) h q k = omega arith
 
+pub inner : (w h q : ℕ) → q < h * w → (q % w < w) × (q / w < h)
+inner w h q k = let o = some w h q k in (mod-lt q o, div-lt-iff-lt-mul o .1 k)
+
 module _ {m m′ : List ℕ} {w h : ℕ} {f : ℕ → ℕ → ℕ} (l : Laid m m′ 0 w w h f) (q : ℕ) where
   pub whole-at : q < h * w → getD m′ q 0 ≡ f (q % w) (q / w)
   whole-at k =
-      let o = some w h q k in
       let p : 0 + q / w * w + q % w ≡ q = omega (arith, div-add-mod' q w) in
-      ap (λ (i : ℕ). getD m′ i 0) (sym p) ∙ l .laid (q % w) (q / w) (mod-lt q o) (div-lt-iff-lt-mul o .1 k)
+      let d = inner w h q k in
+      ap (λ (i : ℕ). getD m′ i 0) (sym p) ∙ l .laid (q % w) (q / w) (d .0) (d .1)
 
   pub whole-beyond : h * w ≤ q → getD m′ q 0 ≡ getD m q 0
   whole-beyond k = l .kept q (λ u v a b p. omega (arith, row-below w v h b))

@@ -5,13 +5,17 @@ pub mod Claims
 pub mod Facing
 pub mod Frame
 pub mod Laid
+pub mod Listed
 pub mod Locality
 pub mod Merged
 pub mod OneMore
 pub mod Owners
 pub mod Panels
+pub mod Parts
 pub mod Runs
 pub mod Scanned
 pub mod Sections
 pub mod Slices
+pub mod Slicing
+pub mod Step
 pub mod Upto

@@ -121,6 +121,39 @@ count-some P f c (q ∷ qs) h n = go (covers q f c) refl n (count-some P f c qs 
     go true e n k = h .0 e
     go false e n k = k (λ z. n (omega arith))
 
+-- exactly one panel of the list has the face, and of that one P holds
+pub record Alone (qs : List Quad) (f : Face) (c : Cell) (P : Quad → Type 0) : Type 0 where
+  pub before : List Quad
+  pub panel : Quad
+  pub after : List Quad
+  pub split : qs ≡ before ++ panel ∷ after
+  pub has : covers panel f c ≡ true
+  pub so : P panel
+  pub none-before : coverCount before f c ≡ 0
+  pub none-after : coverCount after f c ≡ 0
+
+pub alone : (P : Quad → Type 0) (f : Face) (c : Cell) (qs : List Quad) → Each (λ q. covers q f c ≡ true → P q) qs → coverCount qs f c ≡ 1 → Alone qs f c P
+unfolding coverCount
+alone P f c [] h e = absurd (omega arith)
+alone P f c (q ∷ qs) h e = go (covers q f c) refl e (alone P f c qs (h .1))
+  where
+    later : covers q f c ≡ false → Alone qs f c P → Alone (q ∷ qs) f c P
+    later y a =
+        record {
+          before = q ∷ a .before;
+          panel = a .panel;
+          after = a .after;
+          split = ap (λ (l : List Quad). q ∷ l) (a .split);
+          has = a .has;
+          so = a .so;
+          none-before = rw y (zero-add _ ∙ a .none-before);
+          none-after = a .none-after;
+        }
+
+    go : (y : Bool) → covers q f c ≡ y → cond y 1 0 + coverCount qs f c ≡ 1 → (coverCount qs f c ≡ 1 → Alone qs f c P) → Alone (q ∷ qs) f c P
+    go true y e k = record { before = []; panel = q; after = qs; split = refl; has = y; so = h .0 y; none-before = refl; none-after = omega arith }
+    go false y e k = later y (k (omega arith))
+
 module _ (t : Box → Quad) (f : Face) (c : Cell) where
   count-none : (bs : List Box) → ((n : ℕ) → n < length bs → covers (t (nth bs n)) f c ≡ true → ⊥) → coverCount (map t bs) f c ≡ 0
   count-none bs h =
@@ -283,6 +316,14 @@ module _ (beyond : Bool) (g : Shape) (look : Cell → ℕ) (r : Region) (s : ℕ
           (slot-has (nth boxes (a .index)) (found-at (a .index) (a .listed)) u v lu (a .has))
           (λ n ln y. a .only n ln (has-slot (nth boxes n) (found-at n ln) u v y))
           ∙ sym (seen-one x z)
+
+  pub slice-alone : (u v : ℕ) → u < w → v < h → (shown beyond g look s (cellIn g r s k u v) ≡ 0 → ⊥)
+      → Alone (slicePanels beyond g look r s k) (faceOf s) (cellIn g r s k u v) (Panel beyond g look r s k)
+  slice-alone u v lu lv n =
+      alone (Panel beyond g look r s k) (faceOf s) (cellIn g r s k u v) (slicePanels beyond g look r s k)
+      (each-so (Panel beyond g look r s k) (λ q. covers q (faceOf s) (cellIn g r s k u v) ≡ true → Panel beyond g look r s k q) (λ q p e. p)
+      (slicePanels beyond g look r s k) slice-each)
+      (slice-count u v lu lv ∙ seen-one (shown beyond g look s (cellIn g r s k u v)) n)
 
   -- the panels' extents multiplied and summed are the visible faces
   quad-size : (b : Box) → Found b → product (countsOf (quadOf g r s k b .extent)) ≡ size (b .dirs)
@@ -502,12 +543,24 @@ module _ (beyond : Bool) (g : Shape) (look : Cell → ℕ) (r : Region) where
           n (es, cell-inj g r s l (sym (x .cell) ∙ a .cell) .normal))
           (slicePanels beyond g look r t k) (slice-each beyond g look r t lt k))
 
+  at-face : (f : Face) (c : Cell) → Each (λ q. covers q f c ≡ true → Faced beyond g look r q f c) (partPanels beyond g look r)
+  at-face f c =
+      each-so (λ q. (f : Face) (c : Cell) → covers q f c ≡ true → Faced beyond g look r q f c) (λ q. covers q f c ≡ true → Faced beyond g look r q f c)
+      (λ q h. h f c) (partPanels beyond g look r) part-faces
+
+  -- the one panel has the face's finish
+  pub part-alone : (s : ℕ) → s < 6 → (c : Cell) → InPart g r c → (shown beyond g look s c ≡ 0 → ⊥)
+      → Alone (partPanels beyond g look r) (faceOf s) c (λ q. Faced beyond g look r q (faceOf s) c)
+  part-alone s l c i n =
+      alone (λ q. Faced beyond g look r q (faceOf s) c) (faceOf s) c (partPanels beyond g look r) (at-face (faceOf s) c)
+      (part-count s l c i ∙ seen-one (shown beyond g look s c) n)
+
   -- a face of no cell of the part lies in no panel
   pub part-only : (f : Face) (c : Cell) → (coverCount (partPanels beyond g look r) f c ≡ 0 → ⊥) → InPart g r c
   part-only f c n =
       count-some (InPart g r c) f c (partPanels beyond g look r)
-      (each-so (λ q. (f : Face) (c : Cell) → covers q f c ≡ true → Faced beyond g look r q f c) (λ q. covers q f c ≡ true → InPart g r c)
-      (λ q h e. h f c e .part) (partPanels beyond g look r) part-faces) n
+      (each-so (λ q. covers q f c ≡ true → Faced beyond g look r q f c) (λ q. covers q f c ≡ true → InPart g r c) (λ q h e. h e .part)
+      (partPanels beyond g look r) (at-face f c)) n
 
   -- the extents multiplied and summed are the visible faces, and there are no more panels than those
   pub part-sum : faceSum (partPanels beyond g look r) ≡ facesIn beyond g look r

@@ -3,7 +3,7 @@ use mathlib.Core.Path.{_≡_, refl, sym, ap, _∙_}
 use mathlib.Core.Bool.{Bool, true}
 use mathlib.Core.List.{List}
 use Prim.Native.Nat.{ℕ, zero, suc, _+_, _-_, _*_, _/_, _%_, _≤_, _<_, min}
-use native.Mathlib.Nat.{div-add-mod', mul-le-mul}
+use native.Mathlib.Nat.{div-add-mod', mul-le-mul, zero-add}
 use native.Mathlib.Omega.{arith}
 use lib.Arith.{digits-div, digits-mod}
 use lib.ListN.{length}
@@ -12,12 +12,12 @@ use Rattle.stand.specs.declared.Cell.{Cell}
 use Rattle.stand.specs.declared.Face.{Face}
 use Rattle.stand.specs.declared.volume.shape.Point.{Point}
 use Rattle.stand.proofs.Shape.{Within, chunk-lt, distance-from, from-distance, inside-from, inside-within, stored}
-use Rattle.mesh.specs.Cover.{coverCount, facesIn, seen, sumTo}
+use Rattle.mesh.specs.Cover.{coverCount, faceSum, facesIn, seen, sumTo}
 use Rattle.mesh.specs.Panels.{faceOf, partPanels}
-use Rattle.mesh.specs.Part.{added, sectionPart}
+use Rattle.mesh.specs.Part.{added, sectionPart, wholePart}
 use Rattle.mesh.specs.Visible.{shown}
 use Rattle.mesh.specs.declared.Quad.{Quad}
-use Rattle.mesh.proofs.Panels.{InPart, part-count, part-few, part-most, part-only}
+use Rattle.mesh.proofs.Panels.{InPart, part-count, part-few, part-most, part-only, part-sum}
 use Rattle.mesh.proofs.Slices.{sum-only}
 
 -- ---- a section's place, and back
@@ -98,6 +98,23 @@ chunk-part g c o h =
     whole : {d p : ℕ} → p ≡ d / 16 → d ≡ p * 16 + d % 16
     whole e = omega arith
 
+-- the whole part has the cells inside
+pub whole-part : (g : Shape) (c : Cell) → inside g c ≡ true → InPart g (wholePart g) c
+unfolding wholePart added
+whole-part g c h =
+    let d = distance g c in
+    record {
+      at = d;
+      within = inside-within g c h;
+      cell = sym (from-distance g c h) ∙ ap (cellFrom g) (λ j. pointOf (sym (zero-add (d .x)) j) (sym (zero-add (d .y)) j) (sym (zero-add (d .z)) j));
+    }
+
+pub whole-inside : (g : Shape) (c : Cell) → InPart g (wholePart g) c → inside g c ≡ true
+unfolding wholePart added
+whole-inside g c p =
+    let d = p .at in
+    ap (inside g) (p .cell ∙ ap (cellFrom g) (λ j. pointOf (zero-add (d .x) j) (zero-add (d .y) j) (zero-add (d .z) j))) ∙ inside-from g d (p .within)
+
 -- ---- the panels of the sections
 
 module _ (beyond : Bool) (g : Shape) (look : Cell → ℕ) where
@@ -134,3 +151,6 @@ module _ (beyond : Bool) (g : Shape) (look : Cell → ℕ) where
 
   pub section-panels : (i : ℕ) → length (panels i) ≤ 24576
   section-panels i = omega (arith, part-few beyond g look (sectionPart g i), section-faces i)
+
+  pub section-sum : (i : ℕ) → faceSum (panels i) ≤ 24576
+  section-sum i = omega (arith, part-sum beyond g look (sectionPart g i), section-faces i)

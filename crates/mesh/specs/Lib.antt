@@ -2,6 +2,7 @@
 pub mod Claims
 pub mod Cover
 pub mod Frame
+pub mod Listed
 pub mod Merge
 pub mod Near
 pub mod Panels
@@ -9,4 +10,6 @@ pub mod Part
 pub mod Plane
 pub mod Quad
 pub mod Scan
+pub mod Slice
+pub mod Step
 pub mod Visible

@@ -10,8 +10,10 @@ use stand::volume::answer::NumberAnswer;
 use stand::volume::shape::counts;
 
 mod claim;
+mod part;
 mod plane;
 mod scan;
+pub mod slice;
 
 // What lies outside the stand: document 01's outside rule.
 pub enum Beyond {

@@ -1,0 +1,254 @@
+-- A part along a side's axes: its extents, its cells, and where a section's cells are stored.
+use mathlib.Core.Path.{_≡_, refl, sym, ap, _∙_}
+use mathlib.Core.Bool.{true, cond}
+use Prim.Native.Nat.{ℕ, zero, suc, _+_, _-_, _*_, _/_, _%_, _≤_, _<_, min, max}
+use native.Mathlib.Nat.{add-mul, div-add-mod', div-lt-iff-lt-mul, mod-lt, mul-assoc, mul-comm, mul-le-mul}
+use native.Mathlib.Omega.{arith}
+use lib.Arith.{digits-div, digits-mod}
+use lib.Dec.{eqb}
+use Rattle.stand.specs.Shape.{Below, Shape, Stored, cellFrom, chunkOf, chunkPlace, chunksIn, chunksOn, corner, counted, distance, inside, maxChunks, opens, over, pointOf, product, rest, sectionAt, sections, slot, slotAt, spotAt, withinAt}
+use Rattle.stand.specs.Sides.{firstAt, normalAt, secondAt}
+use Rattle.stand.specs.declared.Cell.{Cell}
+use Rattle.stand.specs.declared.volume.shape.Point.{Point}
+use Rattle.stand.specs.declared.volume.shape.Region.{Region}
+use Rattle.stand.proofs.Formed.{some-x, some-y}
+use Rattle.stand.proofs.Shape.{Within, distance-from, from-distance, inside-from, inside-within, slot-at-chunk, slot-chunk, slot-from, stored}
+use Rattle.stand.proofs.Sides.{six}
+use Rattle.stand.proofs.Slots.{spot-of-slot}
+use Rattle.mesh.specs.Part.{added, cellIn, depthOf, facing, heightOf, largestSide, onAxis, sectionPart, turned, wholePart, widthOf}
+use Rattle.mesh.specs.Step.{strideOn}
+
+-- ---- the axes of a side, in three arrangements
+
+pub arranged : (P : ℕ → ℕ → ℕ → Type 0) → P 0 1 2 → P 1 0 2 → P 2 0 1 → (s : ℕ) → s < 6 → P (normalAt s) (firstAt s) (secondAt s)
+unfolding normalAt firstAt secondAt
+arranged P a b c = six (λ s. P (normalAt s) (firstAt s) (secondAt s)) a a b b c c
+
+abbrev along : ℕ → ℕ → ℕ → ℕ → ℕ → ℕ → ℕ
+along a n f k u v = cond (eqb a n) k (cond (eqb a f) u v)
+
+-- an axis that is neither 0 nor 1
+pub third : (P : ℕ → Type 0) → ((b : ℕ) → P (suc (suc b))) → (a : ℕ) → (a ≡ 0 → ⊥) → (a ≡ 1 → ⊥) → P a
+third P h zero n m = absurd (n refl)
+third P h (suc zero) n m = absurd (m refl)
+third P h (suc (suc b)) n m = h b
+
+-- `facing` by the axes
+abbrev pub facingOf : ℕ → ℕ → ℕ → ℕ → ℕ → Point
+facingOf n f k u v = pointOf (along 0 n f k u v) (along 1 n f k u v) (along 2 n f k u v)
+
+pub points : {a b c x y z : ℕ} → a ≡ x → b ≡ y → c ≡ z → pointOf a b c ≡ pointOf x y z
+points p q r = λ i. pointOf (p i) (q i) (r i)
+
+module _ (s : ℕ) (h : s < 6) where
+  -- the numbers of a point, and the point of three numbers
+  pub facing-of : (p : Point) → facing s (onAxis (normalAt s) p) (onAxis (firstAt s) p) (onAxis (secondAt s) p) ≡ p
+  unfolding facing turned
+  facing-of p = arranged (λ n f t. facingOf n f (onAxis n p) (onAxis f p) (onAxis t p) ≡ p) refl refl refl s h
+
+  module _ (k u v : ℕ) where
+    pub on-normal : onAxis (normalAt s) (facing s k u v) ≡ k
+    unfolding facing turned
+    on-normal = arranged (λ n f t. onAxis n (facingOf n f k u v) ≡ k) refl refl refl s h
+
+    pub on-first : onAxis (firstAt s) (facing s k u v) ≡ u
+    unfolding facing turned
+    on-first = arranged (λ n f t. onAxis f (facingOf n f k u v) ≡ u) refl refl refl s h
+
+    pub on-second : onAxis (secondAt s) (facing s k u v) ≡ v
+    unfolding facing turned
+    on-second = arranged (λ n f t. onAxis t (facingOf n f k u v) ≡ v) refl refl refl s h
+
+    -- numbers below those of a point
+    pub facing-below : (p : Point) → k < onAxis (normalAt s) p → u < onAxis (firstAt s) p → v < onAxis (secondAt s) p → Within p (facing s k u v)
+    unfolding facing turned
+    facing-below p =
+        arranged (λ n f t. k < onAxis n p → u < onAxis f p → v < onAxis t p → Within p (facingOf n f k u v))
+        (λ a b c. record { x = a; y = b; z = c })
+        (λ a b c. record { x = b; y = a; z = c })
+        (λ a b c. record { x = b; y = c; z = a })
+        s h
+
+-- ---- parts inside a shape
+
+pub record PartIn (g : Shape) (r : Region) : Type 0 where
+  pub x : r .low .x + r .count .x ≤ g .size .x
+  pub y : r .low .y + r .count .y ≤ g .size .y
+  pub z : r .low .z + r .count .z ≤ g .size .z
+
+pub whole-in : (g : Shape) → PartIn g (wholePart g)
+unfolding wholePart
+whole-in g = record { x = omega arith; y = omega arith; z = omega arith }
+
+pub cell-distance : (g : Shape) (r : Region) (s k u v : ℕ) → distance g (cellIn g r s k u v) ≡ added (r .low) (facing s k u v)
+unfolding cellIn
+cell-distance g r s k u v = distance-from g (added (r .low) (facing s k u v))
+
+-- a cell of a slice of a part
+module _ (g : Shape) (r : Region) (s k u v : ℕ) (p : PartIn g r) (h : s < 6) (hk : k < depthOf r s) (hu : u < widthOf r s) (hv : v < heightOf r s) where
+  pub cell-below : Within (r .count) (facing s k u v)
+  unfolding depthOf widthOf heightOf
+  cell-below = facing-below s h k u v (r .count) hk hu hv
+
+  pub cell-within : Within (g .size) (added (r .low) (facing s k u v))
+  unfolding added
+  cell-within =
+      let b = cell-below in
+      record { x = omega (arith, p .x, b .x); y = omega (arith, p .y, b .y); z = omega (arith, p .z, b .z) }
+
+  pub cell-inside : inside g (cellIn g r s k u v) ≡ true
+  unfolding cellIn
+  cell-inside = inside-from g (added (r .low) (facing s k u v)) cell-within
+
+added-same : (p q w : Point) → added p q ≡ added p w → q ≡ w
+unfolding added
+added-same p q w e =
+    points
+    (less (p .x) (q .x) (w .x) (λ i. e i .x)) (less (p .y) (q .y) (w .y) (λ i. e i .y)) (less (p .z) (q .z) (w .z) (λ i. e i .z))
+  where
+    less : (a b c : ℕ) → a + b ≡ a + c → b ≡ c
+    less a b c e = omega arith
+
+-- a cell is at one place of a part's slices
+pub cell-same : (g : Shape) (r : Region) (s k u v l a b : ℕ) → s < 6 → cellIn g r s k u v ≡ cellIn g r s l a b → (k ≡ l) × (u ≡ a) × (v ≡ b)
+cell-same g r s k u v l a b h e =
+    let d = sym (cell-distance g r s k u v) ∙ ap (distance g) e ∙ cell-distance g r s l a b in
+    let f = added-same (r .low) (facing s k u v) (facing s l a b) d in
+    (sym (on-normal s h k u v) ∙ ap (onAxis (normalAt s)) f ∙ on-normal s h l a b,
+      sym (on-first s h k u v) ∙ ap (onAxis (firstAt s)) f ∙ on-first s h l a b,
+      sym (on-second s h k u v) ∙ ap (onAxis (secondAt s)) f ∙ on-second s h l a b)
+
+-- ---- the largest side
+
+pub side-largest : (r : Region) (s : ℕ) → s < 6 → widthOf r s * heightOf r s ≤ largestSide r
+unfolding widthOf heightOf largestSide
+side-largest r s h =
+    arranged (λ n f t. onAxis f (r .count) * onAxis t (r .count) ≤ max (r .count .x * r .count .y) (max (r .count .x * r .count .z) (r .count .y * r .count .z)))
+    (omega arith) (omega arith) (omega arith) s h
+
+-- ---- a section's extents
+
+-- along one axis: n cells, those of the section at place p from 16 p on
+pub record Cut (n p c : ℕ) : Type 0 where
+  pub some : 1 ≤ c
+  pub most : c ≤ 16
+  pub fits : p * 16 + c ≤ n
+  pub is : c ≡ min 16 (n - p * 16)
+
+cuts : (n p : ℕ) → p < chunksOn n → Cut n p (min 16 (n - p * 16))
+unfolding chunksOn
+cuts n p h = record { some = omega arith; most = omega arith; fits = omega arith; is = refl }
+
+module _ (k : Point) (i : ℕ) (h : i < product k) where
+  pub place-in : Within k (chunkPlace k i)
+  unfolding chunkPlace product
+  place-in =
+      record {
+        x = mod-lt i (some-x k i h);
+        y = mod-lt (i / k .x) (some-y k i h);
+        z = div-lt-iff-lt-mul (some-y k i h) .1 (div-lt-iff-lt-mul (some-x k i h) .1 (omega (arith, mul-assoc (k .z) (k .y) (k .x), mul-comm (k .z) (k .y * k .x), mul-comm (k .y) (k .x))));
+      }
+
+module _ (g : Shape) (i : ℕ) (h : i < sections g) where
+  pub section-on : (a : ℕ) → Cut (onAxis a (g .size)) (onAxis a (chunkPlace (counted g) i)) (onAxis a (sectionPart g i .count))
+  unfolding sections sectionPart corner counted chunksIn
+  section-on zero = cuts (g .size .x) _ (place-in (counted g) i h .x)
+  section-on (suc zero) = cuts (g .size .y) _ (place-in (counted g) i h .y)
+  section-on (suc (suc a)) = cuts (g .size .z) _ (place-in (counted g) i h .z)
+
+  pub section-in : PartIn g (sectionPart g i)
+  unfolding sectionPart corner
+  section-in = record { x = section-on 0 .fits; y = section-on 1 .fits; z = section-on 2 .fits }
+
+  pub section-below : Below 17 (sectionPart g i .count)
+  section-below = record { x = omega (arith, section-on 0 .most); y = omega (arith, section-on 1 .most); z = omega (arith, section-on 2 .most) }
+
+  pub section-largest : largestSide (sectionPart g i) ≤ 256
+  unfolding largestSide
+  section-largest =
+      let x = section-on 0 .most in
+      let y = section-on 1 .most in
+      let z = section-on 2 .most in
+      omega (arith, mul-le-mul x y, mul-le-mul x z, mul-le-mul y z)
+
+-- ---- where cells are stored
+
+-- the lowest cell of the section at a place
+abbrev pub scaled : Point → Point
+scaled p = pointOf (p .x * 16) (p .y * 16) (p .z * 16)
+
+pub slot-in : (k p w : Point) → Below 16 w → slotAt k (added (scaled p) w) ≡ sectionAt k p * 4096 + withinAt w
+unfolding slotAt over rest added
+slot-in k p w h =
+    λ i. sectionAt k (pointOf (digits-div (p .x) (h .x) i) (digits-div (p .y) (h .y) i) (digits-div (p .z) (h .z) i)) * 4096
+    + withinAt (pointOf (digits-mod (p .x) (h .x) i) (digits-mod (p .y) (h .y) i) (digits-mod (p .z) (h .z) i))
+
+pub section-place : (k : Point) (i : ℕ) → sectionAt k (chunkPlace k i) ≡ i
+unfolding chunkPlace sectionAt
+section-place k i = ap (λ (n : ℕ). n * k .x + i % k .x) (div-add-mod' (i / k .x) (k .y)) ∙ div-add-mod' i (k .x)
+
+-- the index within a section, by the steps along a side's axes
+pub within-facing : (s k u v : ℕ) → s < 6 → withinAt (facing s k u v) ≡ k * strideOn (normalAt s) + v * strideOn (secondAt s) + u * strideOn (firstAt s)
+unfolding facing turned withinAt
+within-facing s k u v h =
+    arranged (λ n f t. withinAt (facingOf n f k u v) ≡ k * strideOn n + v * strideOn t + u * strideOn f)
+    (omega arith) (omega arith) (omega arith) s h
+
+-- a cell of a slice of a section
+module _ (g : Shape) (i s k u v : ℕ) (h : i < sections g) (hs : s < 6) (hk : k < depthOf (sectionPart g i) s) (hu : u < widthOf (sectionPart g i) s) (hv : v < heightOf (sectionPart g i) s) where
+  pub section-inside : inside g (cellIn g (sectionPart g i) s k u v) ≡ true
+  section-inside = cell-inside g (sectionPart g i) s k u v (section-in g i h) hs hk hu hv
+
+  pub section-slot : slot g (cellIn g (sectionPart g i) s k u v) ≡ i * 4096 + withinAt (facing s k u v)
+  unfolding cellIn sectionPart corner
+  section-slot =
+      let b = cell-below g (sectionPart g i) s k u v (section-in g i h) hs hk hu hv in
+      let m = section-below g i h in
+      slot-from g (added (sectionPart g i .low) (facing s k u v))
+      ∙ slot-in (counted g) (chunkPlace (counted g) i) (facing s k u v) (record { x = omega (arith, b .x, m .x); y = omega (arith, b .y, m .y); z = omega (arith, b .z, m .z) })
+      ∙ ap (λ (n : ℕ). n * 4096 + withinAt (facing s k u v)) (section-place (counted g) i)
+
+-- ---- every cell inside is in one section, at one place of each side's slices
+
+pub record Found (g : Shape) (s i : ℕ) (c : Cell) : Type 0 where
+  pub k : ℕ
+  pub u : ℕ
+  pub v : ℕ
+  pub deep : k < depthOf (sectionPart g i) s
+  pub wide : u < widthOf (sectionPart g i) s
+  pub high : v < heightOf (sectionPart g i) s
+  pub is : cellIn g (sectionPart g i) s k u v ≡ c
+
+module _ (g : Shape) (s : ℕ) (c : Cell) (o : opens g ≡ true) (hs : s < 6) (h : inside g c ≡ true) where
+  abbrev left : Point
+  left = rest (distance g c)
+
+  corner-rest : added (corner (counted g) (chunkOf g c)) left ≡ distance g c
+  unfolding added rest chunkOf spotAt corner
+  corner-rest =
+      let e = spot-of-slot (counted g) (distance g c) (stored g (distance g c) o (inside-within g c h)) in
+      let p = ap (chunkPlace (counted g)) (slot-at-chunk (counted g) (distance g c)) in
+      points
+      (on _ _ (omega arith) (λ i. e i .x) (λ i. p i .x)) (on _ _ (omega arith) (λ i. e i .y) (λ i. p i .y)) (on _ _ (omega arith) (λ i. e i .z) (λ i. p i .z))
+    where
+      on : (a b : ℕ) {r d : ℕ} → r < 16 → a * 16 + r ≡ d → a ≡ b → b * 16 + d % 16 ≡ d
+      on a b l p q = omega arith
+
+  left-on : (a : ℕ) → onAxis a left < onAxis a (sectionPart g (chunkOf g c) .count)
+  unfolding sectionPart added rest
+  left-on zero = omega (arith, inside-within g c h .x, ap (λ (p : Point). p .x) corner-rest)
+  left-on (suc zero) = omega (arith, inside-within g c h .y, ap (λ (p : Point). p .y) corner-rest)
+  left-on (suc (suc a)) = omega (arith, inside-within g c h .z, ap (λ (p : Point). p .z) corner-rest)
+
+  pub found : Found g s (chunkOf g c) c
+  unfolding depthOf widthOf heightOf cellIn sectionPart
+  found =
+      record {
+        k = onAxis (normalAt s) left;
+        u = onAxis (firstAt s) left;
+        v = onAxis (secondAt s) left;
+        deep = left-on (normalAt s);
+        wide = left-on (firstAt s);
+        high = left-on (secondAt s);
+        is = ap (λ (w : Point). cellFrom g (added (corner (counted g) (chunkOf g c)) w)) (facing-of s hs left) ∙ ap (cellFrom g) corner-rest ∙ from-distance g c h;
+      }
