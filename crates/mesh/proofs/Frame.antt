@@ -1,13 +1,13 @@
 -- Panels by a slice's frame: as numbers, as the scan adds them, and as the part's panels.
 use mathlib.Core.Path.{_≡_, refl, sym, ap, _∙_, subst}
 use mathlib.Core.Bool.{Bool, true, false, cond}
-use mathlib.Core.List.{List, [], _∷_, _++_, append-assoc, append-nil, map, map-append}
-use Prim.Native.Nat.{ℕ, zero, suc, _+_, _*_, _-_, _/_, _%_, _≤_, _<_}
+use mathlib.Core.List.{List, [], _∷_, _++_, append-assoc, append-nil, map, map-append, map-map}
+use Prim.Native.Nat.{ℕ, zero, suc, _+_, _*_, _/_, _%_, _≤_, _<_}
 use native.Mathlib.Nat.{add-assoc, add-suc, add-zero, div-eq-of-lt, mod-eq-of-lt, mul-add-div-right, mul-add-mod-self-right, mul-one, suc-add}
 use native.Mathlib.Numerals.{add-one}
 use native.Mathlib.Omega.{arith}
 use borrow.Author.Tests.{eqb-true, eqb-false, eq-eqb, ne-eqb, le-ltb, lt-ltb}
-use lib.Dec.{eqb, ltb}
+use lib.Dec.{eqb}
 use lib.IntN.{ℤ, pos, _+ℤ_}
 use lib.ListN.{length, length-append, length-map}
 use lib.Seq.{sets}
@@ -19,15 +19,14 @@ use Rattle.stand.specs.Cells.{cellOf}
 use Rattle.stand.specs.Shape.{Ranged, Shape, cellFrom, levelsOf}
 use Rattle.stand.specs.Sides.{firstAt, normalAt, secondAt, sideNumber}
 use Rattle.stand.specs.Storage.{extentOf}
-use Rattle.stand.specs.declared.volume.shape.Point.{Point}
 use Rattle.stand.specs.declared.volume.shape.Region.{Region}
 use Rattle.mesh.specs.Claims.{ClaimPost}
-use Rattle.mesh.specs.Frame.{Lies, ScanPost, StepPost, StepPre, Wrote, alongFrame, frameOf, nextAt, quadFrom, rectOf}
-use Rattle.mesh.specs.Merge.{Box, Cuts, cutTo, limits, total}
+use Rattle.mesh.specs.Frame.{Lies, StepPost, Wrote, alongFrame, frameOf, nextAt, quadFrom, rectOf}
+use Rattle.mesh.specs.Merge.{Cuts, cutTo, limits, total}
 use Rattle.mesh.specs.Panels.{boxesOf, faceOf, nokey, quadOf, stepsOf}
 use Rattle.mesh.specs.Part.{added, cellIn, facing, heightOf, onAxis, turned, widthOf}
 use Rattle.mesh.specs.Quad.{numbersOf, putQuad, writeFrom}
-use Rattle.mesh.specs.Scan.{Rect, State, clearOf, fresh, place, rectAt, rowTo, rowsTo, scan, slot, stepAt}
+use Rattle.mesh.specs.Scan.{Rect, State, clearOf, fresh, rectAt, rowTo, rowsTo, scan, slot, stepAt}
 use Rattle.mesh.specs.declared.Quad.{Quad}
 use Rattle.mesh.specs.declared.claim.Claim.{Claim}
 use Rattle.mesh.specs.declared.scan.Frame.{Frame}
@@ -37,7 +36,7 @@ use Rattle.mesh.proofs.Scanned.{Fits, asBox, row-jump, row-skip, scan-f
 
 -- ---- a panel's numbers
 
-side-number : (s : ℕ) → s < 6 → sideNumber (faceOf s) ≡ s
+pub side-number : (s : ℕ) → s < 6 → sideNumber (faceOf s) ≡ s
 side-number zero h = refl
 side-number (suc zero) h = refl
 side-number (suc (suc zero)) h = refl
@@ -217,10 +216,9 @@ module _ {f : Frame} {u v : ℕ} (lu : u < f .width) (m : List ℕ) (out : List 
 from-level : (o : ℤ) (low d : ℕ) → SFits w32 o → levelOf o + low + d < 4294967296 → numberOf (levelOf o + low + d) ≡ o +ℤ pos (low + d)
 from-level o low d f h = ap numberOf (add-assoc (levelOf o) low d) ∙ number-sum o (low + d) f (omega arith)
 
-map-through : (P : Rect → Type 0) (f : Rect → Quad) (b : Rect → Box) (g : Box → Quad) → ((q : Rect) → P q → f q ≡ g (b q)) → (qs : List Rect)
-    → Each P qs → map f qs ≡ map g (map b qs)
-map-through P f b g h [] e = refl
-map-through P f b g h (q ∷ qs) e = λ i. h q (e .0) i ∷ map-through P f b g h qs (e .1) i
+pub map-each : {P : Rect → Type 0} (f g : Rect → Quad) → ((q : Rect) → P q → f q ≡ g q) → (qs : List Rect) → Each P qs → map f qs ≡ map g qs
+map-each f g h [] e = refl
+map-each f g h (q ∷ qs) e = λ i. h q (e .0) i ∷ map-each f g h qs (e .1) i
 
 pub boxes-same : (w h : ℕ) (m : List ℕ) → boxesOf w h m ≡ map (asBox w) (scan w h m .rects)
 unfolding boxesOf total
@@ -263,7 +261,7 @@ module _ (g : Shape) (r : Region) (s k : ℕ) (ranged : Ranged (g .origin)) (lie
         (from-level (g .origin .z) (r .low .z) k (ranged .z) (rw e at normal-in) i))
     cell-on (suc (suc (suc n))) e l = absurd (omega arith)
 
-    cell-same : cellOf (alongFrame (frameOf g r s k) u v 0) (alongFrame (frameOf g r s k) u v 1) (alongFrame (frameOf g r s k) u v 2) ≡ cellIn g r s k u v
+    pub cell-same : cellOf (alongFrame (frameOf g r s k) u v 0) (alongFrame (frameOf g r s k) u v 1) (alongFrame (frameOf g r s k) u v 2) ≡ cellIn g r s k u v
     unfolding normalAt frameOf
     cell-same = cell-on (normalAt s) refl (omega (arith, lies .side))
 
@@ -288,6 +286,8 @@ module _ (g : Shape) (r : Region) (s k : ℕ) (ranged : Ranged (g .origin)) (lie
   pub frame-panels : (m : List ℕ) → map (quadFrom (frameOf g r s k)) (scan (widthOf r s) (heightOf r s) m .rects)
       ≡ map (quadOf g r s k) (boxesOf (widthOf r s) (heightOf r s) m)
   frame-panels m =
-      map-through (Fits (widthOf r s) (heightOf r s)) (quadFrom (frameOf g r s k)) (asBox (widthOf r s)) (quadOf g r s k) frame-quad
-      (scan (widthOf r s) (heightOf r s) m .rects) (scan-fits (widthOf r s) (heightOf r s) m)
-      ∙ ap (map (quadOf g r s k)) (sym (boxes-same (widthOf r s) (heightOf r s) m))
+      let w = widthOf r s in
+      let h = heightOf r s in
+      map-each (quadFrom (frameOf g r s k)) (λ q. quadOf g r s k (asBox w q)) frame-quad (scan w h m .rects) (scan-fits w h m)
+      ∙ sym (map-map (quadOf g r s k) (asBox w) (scan w h m .rects))
+      ∙ ap (map (quadOf g r s k)) (sym (boxes-same w h m))

@@ -15,6 +15,7 @@ pub mod Parts
 pub mod Runs
 pub mod Scanned
 pub mod Sections
+pub mod Shown
 pub mod Slices
 pub mod Slicing
 pub mod Step

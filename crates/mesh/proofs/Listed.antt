@@ -69,54 +69,57 @@ none-listed (q ∷ qs) l = absurd (omega arith)
 module _ (beyond : Bool) (g : Shape) (look : Cell → ℕ) (r : Region) (s k : ℕ) {m m₁ : List ℕ} {a : ℕ}
     (clear : (q : ℕ) → q < heightOf r s * widthOf r s → getD m q 0 ≡ 0)
     (fill : Filled m m₁ a 0 (widthOf r s) (widthOf r s) (heightOf r s) (λ u v. shown beyond g look s (cellIn g r s k u v)))
-    where
-  at-slot : (q : ℕ) → q < heightOf r s * widthOf r s → getD m₁ q 0 ≡ slotShown beyond g look r s k q
-  unfolding slotShown
-  at-slot = whole-at (fill .mask)
-
-  -- a slice without visible faces: nothing is written
-  module _ (l : s < 6) (none : a ≡ 0) where
-    slot-none : (q : ℕ) → q < heightOf r s * widthOf r s → slotShown beyond g look r s k q ≡ 0
+  where
+    at-slot : (q : ℕ) → q < heightOf r s * widthOf r s → getD m₁ q 0 ≡ slotShown beyond g look r s k q
     unfolding slotShown
-    slot-none q lq =
-        let d = inner (widthOf r s) (heightOf r s) q lq in
-        fill .quiet none (q % widthOf r s) (q / widthOf r s) (d .0) (d .1)
+    at-slot = whole-at (fill .mask)
 
-    no-panels : slicePanels beyond g look r s k ≡ []
-    unfolding facesOn
-    no-panels =
-        none-listed (slicePanels beyond g look r s k)
-        (omega (arith, slice-few beyond g look r s l k,
-        sum-none (λ q. seen (slotShown beyond g look r s k q)) (heightOf r s * widthOf r s) (λ q lq. seen-none (slotShown beyond g look r s k q) (slot-none q lq))))
+    -- a slice without visible faces: nothing is written
+    module _ (l : s < 6) (none : a ≡ 0) where
+      slot-none : (q : ℕ) → q < heightOf r s * widthOf r s → slotShown beyond g look r s k q ≡ 0
+      unfolding slotShown
+      slot-none q lq =
+          let d = inner (widthOf r s) (heightOf r s) q lq in
+          fill .quiet none (q % widthOf r s) (q / widthOf r s) (d .0) (d .1)
 
-    pub slice-none : {out : List ℤ} {n : ℕ} → Listed (slicePanels beyond g look r s k) m m₁ out out n n
-    slice-none =
-        let e =
-        same-mask (heightOf r s * widthOf r s) m₁ m (fill .mask .same) (λ q lq. at-slot q lq ∙ slot-none q lq) clear (whole-beyond (fill .mask)) in
-        rw (no-panels, e) listed-none
+      no-panels : slicePanels beyond g look r s k ≡ []
+      unfolding facesOn
+      no-panels =
+          none-listed (slicePanels beyond g look r s k)
+          (omega (
+            arith,
+            slice-few beyond g look r s l k,
+            sum-none (λ q. seen (slotShown beyond g look r s k q)) (heightOf r s * widthOf r s) (λ q lq. seen-none (slotShown beyond g look r s k q) (slot-none q lq)),
+          ))
 
-  module _ (ranged : Ranged (g .origin)) (lies : Lies (frameOf g r s k)) where
-    same-rects : scan (widthOf r s) (heightOf r s) m₁ .rects ≡ scan (widthOf r s) (heightOf r s) (sliceMask beyond g look r s k) .rects
-    unfolding sliceMask
-    same-rects =
-        scan-agree (widthOf r s) (heightOf r s) m₁ (sliceMask beyond g look r s k)
-        (λ q lq. at-slot q lq ∙ sym (getD-table (slotShown beyond g look r s k) (heightOf r s * widthOf r s) q lq))
+      pub slice-none : {out : List ℤ} {n : ℕ} → Listed (slicePanels beyond g look r s k) m m₁ out out n n
+      slice-none =
+          let e =
+          same-mask (heightOf r s * widthOf r s) m₁ m (fill .mask .same) (λ q lq. at-slot q lq ∙ slot-none q lq) clear (whole-beyond (fill .mask)) in
+          rw (no-panels, e) listed-none
 
-    same-panels : map (quadFrom (frameOf g r s k)) (scan (widthOf r s) (heightOf r s) m₁ .rects) ≡ slicePanels beyond g look r s k
-    unfolding slicePanels
-    same-panels =
-        ap (map (quadFrom (frameOf g r s k))) same-rects
-        ∙ frame-panels g r s k ranged lies (sliceMask beyond g look r s k)
+    module _ (ranged : Ranged (g .origin)) (lies : Lies (frameOf g r s k)) where
+      same-rects : scan (widthOf r s) (heightOf r s) m₁ .rects ≡ scan (widthOf r s) (heightOf r s) (sliceMask beyond g look r s k) .rects
+      unfolding sliceMask
+      same-rects =
+          scan-agree (widthOf r s) (heightOf r s) m₁ (sliceMask beyond g look r s k)
+          (λ q lq. at-slot q lq ∙ sym (getD-table (slotShown beyond g look r s k) (heightOf r s * widthOf r s) q lq))
 
-    pub slice-listed : {m₂ : List ℕ} {out out′ : List ℤ} {n c : ℕ} → Wrote (frameOf g r s k) (scan (widthOf r s) (heightOf r s) m₁) m₂ out out′ n c → Listed (slicePanels beyond g look r s k) m m₂ out out′ n c
-    slice-listed {out = out} {n = n} o =
-        let w = widthOf r s in
-        let h = heightOf r s in
-        let e = o .mask in
-        record {
-          mask =
-              e ∙ same-mask (h * w) (scan w h m₁ .mask) m (scan-length w h m₁ ∙ fill .mask .same) (scan-cleared w h m₁) clear
-              (λ q lq. scan-beyond w h m₁ q lq ∙ whole-beyond (fill .mask) q lq);
-          list = o .list ∙ ap (writeFrom out n) same-panels;
-          total = o .total ∙ ap (λ (x : ℕ). n + x) (sym (length-map (scan w h m₁ .rects) (quadFrom (frameOf g r s k))) ∙ ap length same-panels);
-        }
+      same-panels : map (quadFrom (frameOf g r s k)) (scan (widthOf r s) (heightOf r s) m₁ .rects) ≡ slicePanels beyond g look r s k
+      unfolding slicePanels
+      same-panels =
+          ap (map (quadFrom (frameOf g r s k))) same-rects
+          ∙ frame-panels g r s k ranged lies (sliceMask beyond g look r s k)
+
+      pub slice-listed : {m₂ : List ℕ} {out out′ : List ℤ} {n c : ℕ} → Wrote (frameOf g r s k) (scan (widthOf r s) (heightOf r s) m₁) m₂ out out′ n c → Listed (slicePanels beyond g look r s k) m m₂ out out′ n c
+      slice-listed {out = out} {n = n} o =
+          let w = widthOf r s in
+          let h = heightOf r s in
+          let e = o .mask in
+          record {
+            mask =
+                e ∙ same-mask (h * w) (scan w h m₁ .mask) m (scan-length w h m₁ ∙ fill .mask .same) (scan-cleared w h m₁) clear
+                (λ q lq. scan-beyond w h m₁ q lq ∙ whole-beyond (fill .mask) q lq);
+            list = o .list ∙ ap (writeFrom out n) same-panels;
+            total = o .total ∙ ap (λ (x : ℕ). n + x) (sym (length-map (scan w h m₁ .rects) (quadFrom (frameOf g r s k))) ∙ ap length same-panels);
+          }

@@ -2,11 +2,11 @@
 use mathlib.Core.Path.{_≡_, refl, sym, ap, _∙_}
 use mathlib.Core.Bool.{true, cond}
 use Prim.Native.Nat.{ℕ, zero, suc, _+_, _-_, _*_, _/_, _%_, _≤_, _<_, min, max}
-use native.Mathlib.Nat.{add-mul, div-add-mod', div-lt-iff-lt-mul, mod-lt, mul-assoc, mul-comm, mul-le-mul}
+use native.Mathlib.Nat.{div-add-mod', div-lt-iff-lt-mul, mod-lt, mul-assoc, mul-comm, mul-le-mul}
 use native.Mathlib.Omega.{arith}
 use lib.Arith.{digits-div, digits-mod}
 use lib.Dec.{eqb}
-use Rattle.stand.specs.Shape.{Below, Shape, Stored, cellFrom, chunkOf, chunkPlace, chunksIn, chunksOn, corner, counted, distance, inside, maxChunks, opens, over, pointOf, product, rest, sectionAt, sections, slot, slotAt, spotAt, withinAt}
+use Rattle.stand.specs.Shape.{Below, Shape, cellFrom, chunkOf, chunkPlace, chunksIn, chunksOn, corner, counted, distance, inside, opens, over, pointOf, product, rest, sectionAt, sections, slot, slotAt, spotAt, withinAt}
 use Rattle.stand.specs.Sides.{firstAt, normalAt, secondAt}
 use Rattle.stand.specs.declared.Cell.{Cell}
 use Rattle.stand.specs.declared.volume.shape.Point.{Point}
@@ -113,10 +113,11 @@ added-same p q w e =
 pub cell-same : (g : Shape) (r : Region) (s k u v l a b : ℕ) → s < 6 → cellIn g r s k u v ≡ cellIn g r s l a b → (k ≡ l) × (u ≡ a) × (v ≡ b)
 cell-same g r s k u v l a b h e =
     let d = sym (cell-distance g r s k u v) ∙ ap (distance g) e ∙ cell-distance g r s l a b in
-    let f = added-same (r .low) (facing s k u v) (facing s l a b) d in
-    (sym (on-normal s h k u v) ∙ ap (onAxis (normalAt s)) f ∙ on-normal s h l a b,
+    let f = added-same (r .low) (facing s k u v) (facing s l a b) d in (
+      sym (on-normal s h k u v) ∙ ap (onAxis (normalAt s)) f ∙ on-normal s h l a b,
       sym (on-first s h k u v) ∙ ap (onAxis (firstAt s)) f ∙ on-first s h l a b,
-      sym (on-second s h k u v) ∙ ap (onAxis (secondAt s)) f ∙ on-second s h l a b)
+      sym (on-second s h k u v) ∙ ap (onAxis (secondAt s)) f ∙ on-second s h l a b,
+    )
 
 -- ---- the largest side
 
@@ -149,12 +150,29 @@ module _ (k : Point) (i : ℕ) (h : i < product k) where
         z = div-lt-iff-lt-mul (some-y k i h) .1 (div-lt-iff-lt-mul (some-x k i h) .1 (omega (arith, mul-assoc (k .z) (k .y) (k .x), mul-comm (k .z) (k .y * k .x), mul-comm (k .y) (k .x))));
       }
 
+-- the extents of a section along a side's axes
+pub record Extents (r : Region) (s : ℕ) : Type 0 where
+  pub deep : 1 ≤ depthOf r s
+  pub wide : 1 ≤ widthOf r s
+  pub high : 1 ≤ heightOf r s
+  pub depth : depthOf r s ≤ 16
+  pub width : widthOf r s ≤ 16
+  pub height : heightOf r s ≤ 16
+
 module _ (g : Shape) (i : ℕ) (h : i < sections g) where
   pub section-on : (a : ℕ) → Cut (onAxis a (g .size)) (onAxis a (chunkPlace (counted g) i)) (onAxis a (sectionPart g i .count))
   unfolding sections sectionPart corner counted chunksIn
   section-on zero = cuts (g .size .x) _ (place-in (counted g) i h .x)
   section-on (suc zero) = cuts (g .size .y) _ (place-in (counted g) i h .y)
   section-on (suc (suc a)) = cuts (g .size .z) _ (place-in (counted g) i h .z)
+
+  pub section-extents : (s : ℕ) → Extents (sectionPart g i) s
+  unfolding depthOf widthOf heightOf
+  section-extents s =
+      let n = section-on (normalAt s) in
+      let f = section-on (firstAt s) in
+      let t = section-on (secondAt s) in
+      record { deep = n .some; wide = f .some; high = t .some; depth = n .most; width = f .most; height = t .most }
 
   pub section-in : PartIn g (sectionPart g i)
   unfolding sectionPart corner
@@ -187,6 +205,16 @@ pub section-place : (k : Point) (i : ℕ) → sectionAt k (chunkPlace k i) ≡ i
 unfolding chunkPlace sectionAt
 section-place k i = ap (λ (n : ℕ). n * k .x + i % k .x) (div-add-mod' (i / k .x) (k .y)) ∙ div-add-mod' i (k .x)
 
+pub within-lt : (w : Point) → Below 16 w → withinAt w < 4096
+unfolding withinAt
+within-lt w h = omega (arith, h .x, h .y, h .z)
+
+pub facing-sixteen : (s k u v : ℕ) → s < 6 → k < 16 → u < 16 → v < 16 → Below 16 (facing s k u v)
+unfolding facing turned
+facing-sixteen s k u v h a b c =
+    arranged (λ n f t. Below 16 (facingOf n f k u v))
+    (record { x = a; y = b; z = c }) (record { x = b; y = a; z = c }) (record { x = b; y = c; z = a }) s h
+
 -- the index within a section, by the steps along a side's axes
 pub within-facing : (s k u v : ℕ) → s < 6 → withinAt (facing s k u v) ≡ k * strideOn (normalAt s) + v * strideOn (secondAt s) + u * strideOn (firstAt s)
 unfolding facing turned withinAt
@@ -199,56 +227,80 @@ module _ (g : Shape) (i s k u v : ℕ) (h : i < sections g) (hs : s < 6) (hk : k
   pub section-inside : inside g (cellIn g (sectionPart g i) s k u v) ≡ true
   section-inside = cell-inside g (sectionPart g i) s k u v (section-in g i h) hs hk hu hv
 
+  facing-within : Below 16 (facing s k u v)
+  facing-within =
+      let b = cell-below g (sectionPart g i) s k u v (section-in g i h) hs hk hu hv in
+      let m = section-below g i h in
+      record { x = omega (arith, b .x, m .x); y = omega (arith, b .y, m .y); z = omega (arith, b .z, m .z) }
+
   pub section-slot : slot g (cellIn g (sectionPart g i) s k u v) ≡ i * 4096 + withinAt (facing s k u v)
   unfolding cellIn sectionPart corner
   section-slot =
-      let b = cell-below g (sectionPart g i) s k u v (section-in g i h) hs hk hu hv in
-      let m = section-below g i h in
       slot-from g (added (sectionPart g i .low) (facing s k u v))
-      ∙ slot-in (counted g) (chunkPlace (counted g) i) (facing s k u v) (record { x = omega (arith, b .x, m .x); y = omega (arith, b .y, m .y); z = omega (arith, b .z, m .z) })
+      ∙ slot-in (counted g) (chunkPlace (counted g) i) (facing s k u v) facing-within
       ∙ ap (λ (n : ℕ). n * 4096 + withinAt (facing s k u v)) (section-place (counted g) i)
 
--- ---- every cell inside is in one section, at one place of each side's slices
+  pub section-chunk : chunkOf g (cellIn g (sectionPart g i) s k u v) ≡ i
+  section-chunk =
+      sym (slot-chunk g (cellIn g (sectionPart g i) s k u v)) ∙ ap (λ (n : ℕ). n / 4096) section-slot ∙ digits-div i (within-lt (facing s k u v) facing-within)
 
-pub record Found (g : Shape) (s i : ℕ) (c : Cell) : Type 0 where
+-- ---- every cell inside is in a part, at one place of each side's slices
+
+pub record Found (g : Shape) (r : Region) (s : ℕ) (c : Cell) : Type 0 where
   pub k : ℕ
   pub u : ℕ
   pub v : ℕ
-  pub deep : k < depthOf (sectionPart g i) s
-  pub wide : u < widthOf (sectionPart g i) s
-  pub high : v < heightOf (sectionPart g i) s
-  pub is : cellIn g (sectionPart g i) s k u v ≡ c
+  pub deep : k < depthOf r s
+  pub wide : u < widthOf r s
+  pub high : v < heightOf r s
+  pub is : cellIn g r s k u v ≡ c
 
-module _ (g : Shape) (s : ℕ) (c : Cell) (o : opens g ≡ true) (hs : s < 6) (h : inside g c ≡ true) where
-  abbrev left : Point
-  left = rest (distance g c)
+within-on : {p w : Point} → Within p w → (a : ℕ) → onAxis a w < onAxis a p
+within-on h zero = h .x
+within-on h (suc zero) = h .y
+within-on h (suc (suc a)) = h .z
 
-  corner-rest : added (corner (counted g) (chunkOf g c)) left ≡ distance g c
-  unfolding added rest chunkOf spotAt corner
-  corner-rest =
-      let e = spot-of-slot (counted g) (distance g c) (stored g (distance g c) o (inside-within g c h)) in
-      let p = ap (chunkPlace (counted g)) (slot-at-chunk (counted g) (distance g c)) in
-      points
-      (on _ _ (omega arith) (λ i. e i .x) (λ i. p i .x)) (on _ _ (omega arith) (λ i. e i .y) (λ i. p i .y)) (on _ _ (omega arith) (λ i. e i .z) (λ i. p i .z))
-    where
-      on : (a b : ℕ) {r d : ℕ} → r < 16 → a * 16 + r ≡ d → a ≡ b → b * 16 + d % 16 ≡ d
-      on a b l p q = omega arith
-
-  left-on : (a : ℕ) → onAxis a left < onAxis a (sectionPart g (chunkOf g c) .count)
-  unfolding sectionPart added rest
-  left-on zero = omega (arith, inside-within g c h .x, ap (λ (p : Point). p .x) corner-rest)
-  left-on (suc zero) = omega (arith, inside-within g c h .y, ap (λ (p : Point). p .y) corner-rest)
-  left-on (suc (suc a)) = omega (arith, inside-within g c h .z, ap (λ (p : Point). p .z) corner-rest)
-
-  pub found : Found g s (chunkOf g c) c
-  unfolding depthOf widthOf heightOf cellIn sectionPart
-  found =
+module _ (g : Shape) (s : ℕ) (c : Cell) (hs : s < 6) (h : inside g c ≡ true) where
+  -- by what is left of the cell's distances in the part
+  found-by : (r : Region) (w : Point) → added (r .low) w ≡ distance g c → Within (r .count) w → Found g r s c
+  unfolding depthOf widthOf heightOf cellIn
+  found-by r w e l =
       record {
-        k = onAxis (normalAt s) left;
-        u = onAxis (firstAt s) left;
-        v = onAxis (secondAt s) left;
-        deep = left-on (normalAt s);
-        wide = left-on (firstAt s);
-        high = left-on (secondAt s);
-        is = ap (λ (w : Point). cellFrom g (added (corner (counted g) (chunkOf g c)) w)) (facing-of s hs left) ∙ ap (cellFrom g) corner-rest ∙ from-distance g c h;
+        k = onAxis (normalAt s) w;
+        u = onAxis (firstAt s) w;
+        v = onAxis (secondAt s) w;
+        deep = within-on l (normalAt s);
+        wide = within-on l (firstAt s);
+        high = within-on l (secondAt s);
+        is = ap (λ (p : Point). cellFrom g (added (r .low) p)) (facing-of s hs w) ∙ ap (cellFrom g) e ∙ from-distance g c h;
       }
+
+  pub found-whole : Found g (wholePart g) s c
+  unfolding wholePart added
+  found-whole = found-by (wholePart g) (distance g c) (points (omega arith) (omega arith) (omega arith)) (inside-within g c h)
+
+  module _ (o : opens g ≡ true) where
+    corner-rest : added (corner (counted g) (chunkOf g c)) (rest (distance g c)) ≡ distance g c
+    unfolding added rest chunkOf spotAt corner
+    corner-rest =
+        let e = spot-of-slot (counted g) (distance g c) (stored g (distance g c) o (inside-within g c h)) in
+        let p = ap (chunkPlace (counted g)) (slot-at-chunk (counted g) (distance g c)) in
+        points
+        (on _ _ (omega arith) (λ i. e i .x) (λ i. p i .x)) (on _ _ (omega arith) (λ i. e i .y) (λ i. p i .y)) (on _ _ (omega arith) (λ i. e i .z) (λ i. p i .z))
+      where
+        on : (a b : ℕ) {r d : ℕ} → r < 16 → a * 16 + r ≡ d → a ≡ b → b * 16 + d % 16 ≡ d
+        on a b l p q = omega arith
+
+    rest-below : Within (sectionPart g (chunkOf g c) .count) (rest (distance g c))
+    unfolding sectionPart added rest
+    rest-below =
+        let w = inside-within g c h in
+        record {
+          x = omega (arith, w .x, ap (λ (p : Point). p .x) corner-rest);
+          y = omega (arith, w .y, ap (λ (p : Point). p .y) corner-rest);
+          z = omega (arith, w .z, ap (λ (p : Point). p .z) corner-rest);
+        }
+
+    pub found-section : Found g (sectionPart g (chunkOf g c)) s c
+    unfolding sectionPart
+    found-section = found-by (sectionPart g (chunkOf g c)) (rest (distance g c)) corner-rest rest-below

@@ -1,40 +1,33 @@
 -- One step on from a slice: the next cell along one axis, in a section, in the neighbouring one, and outside.
 use mathlib.Core.Path.{_≡_, refl, sym, ap, _∙_, subst}
-use mathlib.Core.Bool.{Bool, true, false, cond, _&&_, and-false}
-use mathlib.Core.List.{List}
-use mathlib.Core.Logic.{_⊎_, inl, inr}
+use mathlib.Core.Bool.{Bool, true, false, cond, and-false}
+use mathlib.Core.Logic.{inl, inr}
 use Prim.Native.Nat.{ℕ, zero, suc, _+_, _-_, _*_, _%_, _≤_, _<_, min}
 use native.Mathlib.Nat.{add-mul, add-zero, le-mul-of-pos-right, mul-comm, one-mul}
 use native.Mathlib.Omega.{arith}
 use borrow.Author.Tests.{eq-eqb, le-ltb, leb-true, ne-eqb}
 use lib.Dec.{eqb, leb·zero}
-use lib.ListN.{drop, getD, length, length-drop, take}
-use lib.Seq.{getD-drop, getD-take, length-take-le}
-use lib.IntN.{ℤ, pos, negsuc, _+ℤ_, _-ℤ_, subℕ, +ℤ-assoc, +ℤ-comm, +ℤ-idr, +ℤ-negℤ-cancel}
+use lib.IntN.{ℤ, pos, negsuc, _+ℤ_, _-ℤ_, +ℤ-assoc, +ℤ-comm, +ℤ-idr, +ℤ-negℤ-cancel}
 use mir.Syntax.{w32}
 use mir.Val.{SFits}
 use Rattle.arith.proofs.Levels.{number-sum}
 use Rattle.arith.proofs.Signed.{level-bound, sub-ge}
 use Rattle.arith.specs.Level.{levelOf, numberOf}
 use Rattle.arith.specs.Saturate.{saturate}
-use Rattle.stand.specs.Cells.{cellOf, isEmpty, moved}
-use Rattle.stand.specs.Edit.{look}
-use Rattle.stand.specs.Shape.{Below, Ranged, Shape, cellFrom, chunkPlace, chunksIn, chunksOn, corner, counted, countsOf, inside, insideOn, levelsOf, maxChunks, opens, pointOf, product, sectionAt, sections, shapeOf, slot, slotAt, wellFormed, withinAt}
-use Rattle.stand.specs.Sides.{axesAt, firstAt, normalAt, secondAt, stepAt, stepOn, wayAt}
-use Rattle.stand.specs.declared.Axes.{Axes}
+use Rattle.stand.specs.Cells.{cellOf, moved}
+use Rattle.stand.specs.Shape.{Ranged, Shape, cellFrom, chunkPlace, chunksIn, chunksOn, corner, counted, countsOf, inside, insideOn, lastFits, levelsOf, maxChunks, opens, pointOf, product, sectionAt, sections, shapeOf, slot, wellFormed, withinAt}
+use Rattle.stand.specs.Sides.{firstAt, normalAt, secondAt, stepAt, stepOn, wayAt}
 use Rattle.stand.specs.declared.Cell.{Cell}
 use Rattle.stand.specs.declared.volume.Volume.{Volume}
 use Rattle.stand.specs.declared.volume.shape.Point.{Point}
 use Rattle.stand.proofs.Levels.{from-law, last-law}
-use Rattle.stand.proofs.Shape.{Within, formed-counts, goods, inside-from, sections-few, sections-some, slot-from, slot-lt}
+use Rattle.stand.proofs.Shape.{Within, formed-counts, goods, inside-from, sections-few, slot-from, slot-lt}
 use Rattle.mesh.specs.Part.{added, cellIn, depthOf, facing, heightOf, onAxis, sectionPart, turned, widthOf}
-use Rattle.mesh.specs.Plane.{Filled, PlaneIn, PlaneTo, cellPlane, seenAt, seenPlane}
-use Rattle.mesh.specs.Step.{EachSlot, Follows, SectionIs, SliceIn, SliceOf, hopOn, onward, sliceShown, strideOn}
-use Rattle.mesh.specs.Visible.{ahead, clears, shown}
+use Rattle.mesh.specs.Step.{EachSlot, Follows, SectionIs, SliceOf, hopOn, onward}
+use Rattle.mesh.specs.Visible.{ahead}
 use Rattle.mesh.specs.declared.part.Next.the-variants as N
 use Rattle.mesh.specs.declared.part.Section.{Section}
-use Rattle.mesh.proofs.Laid.{filled-as}
-use Rattle.mesh.proofs.Parts.{Cut, arranged, cell-within, facingOf, place-in, points, scaled, section-in, section-inside, section-on, section-place, section-slot, slot-in, within-facing}
+use Rattle.mesh.proofs.Parts.{Cut, Extents, arranged, cell-within, facing-sixteen, facingOf, place-in, points, scaled, section-extents, section-in, section-inside, section-on, section-place, section-slot, slot-in}
 
 -- ---- along one axis, n cells from o on
 
@@ -102,6 +95,17 @@ coordOn zero c = c .x
 coordOn (suc zero) c = c .y
 coordOn (suc (suc a)) c = c .z
 
+-- the coordinate along axis n of the cell at number m from point l on
+abbrev pub spotOn : Shape → Point → ℕ → ℕ → ℤ
+spotOn g l n m = coordOn n (g .origin) +ℤ pos (onAxis n l + m)
+
+-- the same of side s's normal, and one step on
+abbrev pub spot : Shape → Point → ℕ → ℕ → ℤ
+spot g l s m = spotOn g l (normalAt s) m
+
+abbrev pub stepped : Shape → Point → ℕ → ℕ → ℤ
+stepped g l s m = saturate (spot g l s m +ℤ wayAt s)
+
 pub fits-on : (c : Cell) → Ranged c → (a : ℕ) → SFits w32 (coordOn a c)
 fits-on c r zero = r .x
 fits-on c r (suc zero) = r .y
@@ -123,43 +127,43 @@ scaled-on zero p = refl
 scaled-on (suc zero) p = refl
 scaled-on (suc (suc a)) p = refl
 
+level-room : (o : ℤ) (n : ℕ) → SFits w32 o → lastFits o n ≡ true → levelOf o + n ≤ 4294967296
+level-room o n f e = leb-true (levelOf o + n) 4294967296 (sym (last-law o n f) ∙ e)
+
 module _ (g : Shape) (o : opens g ≡ true) (r : Ranged (g .origin)) where
   -- the levels of a shape that opening gives
   pub room-on : (a : ℕ) → levelOf (coordOn a (g .origin)) + onAxis a (g .size) ≤ 4294967296
   unfolding opens
-  room-on zero = let q = goods (g .origin) (g .size) (counted g) o in leb-true _ _ (sym (last-law (g .origin .x) (g .size .x) (r .x)) ∙ q .x .last)
-  room-on (suc zero) = let q = goods (g .origin) (g .size) (counted g) o in leb-true _ _ (sym (last-law (g .origin .y) (g .size .y) (r .y)) ∙ q .y .last)
-  room-on (suc (suc a)) = let q = goods (g .origin) (g .size) (counted g) o in leb-true _ _ (sym (last-law (g .origin .z) (g .size .z) (r .z)) ∙ q .z .last)
+  room-on zero = level-room _ _ (r .x) (goods _ _ _ o .x .last)
+  room-on (suc zero) = level-room _ _ (r .y) (goods _ _ _ o .y .last)
+  room-on (suc (suc a)) = level-room _ _ (r .z) (goods _ _ _ o .z .last)
 
   module _ (l : Point) (s k : ℕ) where
     pub up-from : s % 2 ≡ 0 → levelOf (coordOn (normalAt s) (g .origin)) + (onAxis (normalAt s) l + k + 1) < 4294967296
-        → saturate (coordOn (normalAt s) (g .origin) +ℤ pos (onAxis (normalAt s) l + k) +ℤ wayAt s) ≡ coordOn (normalAt s) (g .origin) +ℤ pos (onAxis (normalAt s) l + (k + 1))
+        → stepped g l s k ≡ spot g l s (k + 1)
     up-from e h =
         rw (way-up s e) (up (coordOn (normalAt s) (g .origin)) (fits-on (g .origin) r (normalAt s)) (onAxis (normalAt s) l + k) h
         ∙ ap (λ (m : ℕ). coordOn (normalAt s) (g .origin) +ℤ pos m) (omega arith))
 
     pub down-from : s % 2 ≡ 1 → levelOf (coordOn (normalAt s) (g .origin)) + (onAxis (normalAt s) l + k) < 4294967296
-        → saturate (coordOn (normalAt s) (g .origin) +ℤ pos (onAxis (normalAt s) l + (k + 1)) +ℤ wayAt s) ≡ coordOn (normalAt s) (g .origin) +ℤ pos (onAxis (normalAt s) l + k)
+        → stepped g l s (k + 1) ≡ spot g l s k
     down-from e h =
         rw (way-down s e) (ap (λ (m : ℕ). saturate (coordOn (normalAt s) (g .origin) +ℤ pos m +ℤ negsuc 0)) (omega arith)
         ∙ down (coordOn (normalAt s) (g .origin)) (fits-on (g .origin) r (normalAt s)) (onAxis (normalAt s) l + k) h)
 
   module _ (l : Point) (s k u v : ℕ) (h : s < 6) where
-    abbrev from : ℕ → ℕ → ℤ
-    from n m = coordOn n (g .origin) +ℤ pos (onAxis n l + m)
-
     abbrev goes : ℕ → ℕ → ℕ → ℤ
-    goes a n f = saturate (coordOn a (g .origin) +ℤ pos (onAxis a l + onAxis a (facingOf n f k u v)) +ℤ cond (eqb a n) (wayAt s) (pos 0))
+    goes a n f = saturate (spotOn g l a (onAxis a (facingOf n f k u v)) +ℤ cond (eqb a n) (wayAt s) (pos 0))
 
-    still : (a : ℕ) (d : ℕ) → onAxis a l + d < onAxis a (g .size) → saturate (from a d +ℤ pos 0) ≡ from a d
+    still : (a : ℕ) (d : ℕ) → onAxis a l + d < onAxis a (g .size) → saturate (spotOn g l a d +ℤ pos 0) ≡ spotOn g l a d
     still a d t = stay (coordOn a (g .origin)) (fits-on (g .origin) r a) (onAxis a l + d) (omega (arith, room-on a))
 
     module _ (w : Within (g .size) (added l (facing s k u v))) where
       -- the next cell, from that along the normal
-      pub ahead-at : (m : ℕ) → saturate (from (normalAt s) k +ℤ wayAt s) ≡ from (normalAt s) m → ahead s (cellFrom g (added l (facing s k u v))) ≡ cellFrom g (added l (facing s m u v))
+      pub ahead-at : (m : ℕ) → stepped g l s k ≡ spot g l s m → ahead s (cellFrom g (added l (facing s k u v))) ≡ cellFrom g (added l (facing s m u v))
       unfolding ahead moved stepAt stepOn cellFrom added facing turned
       ahead-at m =
-          arranged (λ n f t. Within (g .size) (added l (facingOf n f k u v)) → saturate (from n k +ℤ wayAt s) ≡ from n m → cellOf (goes 0 n f) (goes 1 n f) (goes 2 n f) ≡ cellFrom g (added l (facingOf n f m u v)))
+          arranged (λ n f t. Within (g .size) (added l (facingOf n f k u v)) → saturate (spotOn g l n k +ℤ wayAt s) ≡ spotOn g l n m → cellOf (goes 0 n f) (goes 1 n f) (goes 2 n f) ≡ cellFrom g (added l (facingOf n f m u v)))
           (λ w e. λ i. cellOf (e i) (still 1 u (w .y) i) (still 2 v (w .z) i))
           (λ w e. λ i. cellOf (still 0 u (w .x) i) (e i) (still 2 v (w .z) i))
           (λ w e. λ i. cellOf (still 0 u (w .x) i) (still 1 v (w .y) i) (e i))
@@ -181,10 +185,10 @@ module _ (g : Shape) (o : opens g ≡ true) (r : Ranged (g .origin)) where
           s h w
 
     -- outside along the normal is outside
-    pub outside-at : insideOn (coordOn (normalAt s) (g .origin)) (onAxis (normalAt s) (g .size)) (saturate (from (normalAt s) k +ℤ wayAt s)) ≡ false → inside g (ahead s (cellFrom g (added l (facing s k u v)))) ≡ false
+    pub outside-at : insideOn (coordOn (normalAt s) (g .origin)) (onAxis (normalAt s) (g .size)) (stepped g l s k) ≡ false → inside g (ahead s (cellFrom g (added l (facing s k u v)))) ≡ false
     unfolding ahead moved stepAt stepOn cellFrom added facing turned inside
     outside-at =
-        arranged (λ n f t. insideOn (coordOn n (g .origin)) (onAxis n (g .size)) (saturate (from n k +ℤ wayAt s)) ≡ false → inside g (cellOf (goes 0 n f) (goes 1 n f) (goes 2 n f)) ≡ false)
+        arranged (λ n f t. insideOn (coordOn n (g .origin)) (onAxis n (g .size)) (saturate (spotOn g l n k +ℤ wayAt s)) ≡ false → inside g (cellOf (goes 0 n f) (goes 1 n f) (goes 2 n f)) ≡ false)
         (λ e. rw e) (λ e. simp (e, and-false)) (λ e. simp (e, and-false)) s h
 
 -- ---- neighbouring sections
@@ -207,7 +211,7 @@ module _ (s : ℕ) (h : s < 6) (p : Point) where
   unfolding added facing turned sectionAt
   hop-law k =
       arranged (λ n f t. sectionAt k (added p (facingOf n f 1 0 0)) ≡ sectionAt k p + hopOn k n)
-      (simp (add-zero, add-mul, one-mul) (omega arith))
+      (simp add-zero (omega arith))
       (simp (add-zero, add-mul, one-mul) (omega arith))
       (simp (add-zero, add-mul, one-mul) (omega (arith, mul-comm (k .y) (k .x))))
       s h
@@ -230,12 +234,6 @@ unfolding counted chunksIn
 counted-on g zero = refl
 counted-on g (suc zero) = refl
 counted-on g (suc (suc a)) = refl
-
-facing-sixteen : (s k u v : ℕ) → s < 6 → k < 16 → u < 16 → v < 16 → Below 16 (facing s k u v)
-unfolding facing turned
-facing-sixteen s k u v h a b c =
-    arranged (λ n f t. Below 16 (facingOf n f k u v))
-    (record { x = a; y = b; z = c }) (record { x = b; y = a; z = c }) (record { x = b; y = c; z = a }) s h
 
 -- ---- a slice of a section, and what follows it
 
@@ -292,59 +290,58 @@ module _ (g : Shape) (c : Section) (i s k : ℕ) (q : SliceOf g c i s k) where
       let z = place-in (counted g) i (q .chunk) .z in
       omega (arith, sections-few g (q .opened), le-mul-of-pos-right {m = counted g .z} (counted g .x * counted g .y) (omega arith))
 
-  pub extents : (1 ≤ widthOf (sectionPart g i) s) × (1 ≤ heightOf (sectionPart g i) s)
-  unfolding widthOf heightOf
-  extents = (section-on g i (q .chunk) (firstAt s) .some, section-on g i (q .chunk) (secondAt s) .some)
+  pub extents : Extents (sectionPart g i) s
+  extents = section-extents g i (q .chunk) s
 
   module _ (u v : ℕ) (hu : u < widthOf (sectionPart g i) s) (hv : v < heightOf (sectionPart g i) s) where
     within : Within (g .size) (added (sectionPart g i .low) (facing s k u v))
     within = cell-within g (sectionPart g i) s k u v (section-in g i (q .chunk)) (q .side) (q .slice) hu hv
 
     pub narrow : (u < 16) × (v < 16)
-    unfolding widthOf heightOf
-    narrow = (omega (arith, section-on g i (q .chunk) (firstAt s) .most), omega (arith, section-on g i (q .chunk) (secondAt s) .most))
+    narrow = (omega (arith, extents .width), omega (arith, extents .height))
 
-    to-slice : (m : ℕ) → saturate (start +ℤ pos (onAxis (normalAt s) (sectionPart g i .low) + k) +ℤ wayAt s) ≡ start +ℤ pos (onAxis (normalAt s) (sectionPart g i .low) + m)
+    to-slice : (m : ℕ) → stepped g (sectionPart g i .low) s k ≡ spot g (sectionPart g i .low) s m
         → ahead s (cellIn g (sectionPart g i) s k u v) ≡ cellIn g (sectionPart g i) s m u v
     unfolding cellIn
     to-slice m = ahead-at g (q .opened) (q .ranged) (sectionPart g i .low) s k u v (q .side) within m
 
   module _ (beyond : Bool) where
     follows-at : (j t : ℕ) → t < 16
-        → EachSlot g beyond i s k (λ u v. (inside g (onward g beyond i s k u v) ≡ true) × (slot g (onward g beyond i s k u v) ≡ j * 4096 + withinAt (facing s t u v)))
+        → EachSlot g i s (λ u v. (inside g (onward g i s k u v) ≡ true) × (slot g (onward g i s k u v) ≡ j * 4096 + withinAt (facing s t u v)))
         → Follows g beyond i s k (N.At j t)
     follows-at j t h f =
-        let p = f 0 0 (omega (arith, extents .0)) (omega (arith, extents .1)) in
-        (omega (arith, slot-lt g (onward g beyond i s k 0 0) (q .opened) (p .0), p .1), h, f)
+        let p = f 0 0 (extents .wide) (extents .high) in
+        (omega (arith, slot-lt g (onward g i s k 0 0) (q .opened) (p .0), p .1), h, f)
 
     in-section : (m : ℕ) → m < depthOf (sectionPart g i) s
-        → saturate (start +ℤ pos (onAxis (normalAt s) (sectionPart g i .low) + k) +ℤ wayAt s) ≡ start +ℤ pos (onAxis (normalAt s) (sectionPart g i .low) + m)
+        → stepped g (sectionPart g i .low) s k ≡ spot g (sectionPart g i .low) s m
         → Follows g beyond i s k (N.At i m)
     in-section m h e =
         follows-at i m (omega (arith, cut-normal .most)) (λ u v hu hv.
-          let p = to-slice u v hu hv m e in
-          (ap (inside g) p ∙ section-inside g i s m u v (q .chunk) (q .side) h hu hv, ap (slot g) p ∙ section-slot g i s m u v (q .chunk) (q .side) h hu hv))
+        let p = to-slice u v hu hv m e in
+        (ap (inside g) p ∙ section-inside g i s m u v (q .chunk) (q .side) h hu hv, ap (slot g) p ∙ section-slot g i s m u v (q .chunk) (q .side) h hu hv))
 
     -- a cell that lies in another section at place p, slice t
     in-other : (p : Point) (j t : ℕ) → t < 16 → sectionAt (counted g) p ≡ j
-        → EachSlot g beyond i s k (λ u v. (onward g beyond i s k u v ≡ cellFrom g (added (scaled p) (facing s t u v))) × Within (g .size) (added (scaled p) (facing s t u v)))
+        → EachSlot g i s (λ u v. (onward g i s k u v ≡ cellFrom g (added (scaled p) (facing s t u v))) × Within (g .size) (added (scaled p) (facing s t u v)))
         → Follows g beyond i s k (N.At j t)
     in-other p j t h e f =
         follows-at j t h (λ u v hu hv.
-          let w = f u v hu hv in
-          let n = narrow u v hu hv in
-          (ap (inside g) (w .0) ∙ inside-from g _ (w .1),
-            ap (slot g) (w .0) ∙ slot-from g _ ∙ slot-in (counted g) p (facing s t u v) (facing-sixteen s t u v (q .side) h (n .0) (n .1))
-            ∙ ap (λ (m : ℕ). m * 4096 + withinAt (facing s t u v)) e))
+        let w = f u v hu hv in
+        let n = narrow u v hu hv in (
+          ap (inside g) (w .0) ∙ inside-from g _ (w .1),
+          ap (slot g) (w .0) ∙ slot-from g _ ∙ slot-in (counted g) p (facing s t u v) (facing-sixteen s t u v (q .side) h (n .0) (n .1))
+              ∙ ap (λ (m : ℕ). m * 4096 + withinAt (facing s t u v)) e,
+        ))
 
     -- the step ends at the cell itself
-    at-end : saturate (start +ℤ pos (onAxis (normalAt s) (sectionPart g i .low) + k) +ℤ wayAt s) ≡ start +ℤ pos (onAxis (normalAt s) (sectionPart g i .low) + k)
+    at-end : stepped g (sectionPart g i .low) s k ≡ spot g (sectionPart g i .low) s k
         → Follows g beyond i s k N.Shut
     at-end e u v hu hv = inr (to-slice u v hu hv k e)
 
     -- the step leaves the stand
-    module _ (e : insideOn start size (saturate (start +ℤ pos (onAxis (normalAt s) (sectionPart g i .low) + k) +ℤ wayAt s)) ≡ false) where
-      off : (u v : ℕ) → inside g (onward g beyond i s k u v) ≡ false
+    module _ (e : insideOn start size (stepped g (sectionPart g i .low) s k) ≡ false) where
+      off : (u v : ℕ) → inside g (onward g i s k u v) ≡ false
       unfolding cellIn
       off u v = outside-at g (q .opened) (q .ranged) (sectionPart g i .low) s k u v (q .side) e
 
@@ -363,7 +360,7 @@ module _ (g : Shape) (c : Section) (i s k : ℕ) (q : SliceOf g c i s k) where
     -- ---- up
 
     module _ (even : s % 2 ≡ 0) where
-      rises : at * 16 + k + 1 < size → saturate (start +ℤ pos (onAxis (normalAt s) (sectionPart g i .low) + k) +ℤ wayAt s) ≡ start +ℤ pos (onAxis (normalAt s) (sectionPart g i .low) + (k + 1))
+      rises : at * 16 + k + 1 < size → stepped g (sectionPart g i .low) s k ≡ spot g (sectionPart g i .low) s (k + 1)
       rises h = up-from g (q .opened) (q .ranged) (sectionPart g i .low) s k even (omega (arith, low-normal, room))
 
       pub up-in : k + 1 < depthOf (sectionPart g i) s → Follows g beyond i s k (N.At i (k + 1))
@@ -378,17 +375,17 @@ module _ (g : Shape) (c : Section) (i s k : ℕ) (q : SliceOf g c i s k) where
             in-other (further s (chunkPlace (counted g) i)) (i + d) 0 (omega arith)
             (hop-law s (q .side) (chunkPlace (counted g) i) (counted g) ∙ (λ j. section-place (counted g) i j + sym e j))
             (λ u v hu hv.
-              let p = carry s (q .side) (chunkPlace (counted g) i) 0 u v in
-              let t = to-slice u v hu hv 16 (rises (omega arith) ∙ ap (λ (j : ℕ). start +ℤ pos (onAxis (normalAt s) (sectionPart g i .low) + j)) m) in
-              let w = within-at g (q .opened) (q .ranged) (sectionPart g i .low) s k u v (q .side) (within u v hu hv) 16 (omega (arith, low-normal)) in
-              (t ∙ ap (cellFrom g) (sym p), subst (Within (g .size)) (sym p) w))
+            let p = carry s (q .side) (chunkPlace (counted g) i) 0 u v in
+            let t = to-slice u v hu hv 16 (rises (omega arith) ∙ ap (λ (j : ℕ). spot g (sectionPart g i .low) s j) m) in
+            let w = within-at g (q .opened) (q .ranged) (sectionPart g i .low) s k u v (q .side) (within u v hu hv) 16 (omega (arith, low-normal)) in
+            (t ∙ ap (cellFrom g) (sym p), subst (Within (g .size)) (sym p) w))
 
         pub up-shut : levelOf start + at * 16 + k ≡ 4294967295 → Follows g beyond i s k N.Shut
         up-shut h =
             at-end (rw (way-up s even) (up-end start fits (onAxis (normalAt s) (sectionPart g i .low) + k) (omega (arith, low-normal))))
 
         module _ (last : chunksOn size ≤ at + 1) (inner : levelOf start + at * 16 + k ≡ 4294967295 → ⊥) where
-          up-off : insideOn start size (saturate (start +ℤ pos (onAxis (normalAt s) (sectionPart g i .low) + k) +ℤ wayAt s)) ≡ false
+          up-off : insideOn start size (stepped g (sectionPart g i .low) s k) ≡ false
           unfolding chunksOn
           up-off =
               let n : size ≤ at * 16 + k + 1 = omega (arith, cut-normal .is) in
@@ -408,7 +405,7 @@ module _ (g : Shape) (c : Section) (i s k : ℕ) (q : SliceOf g c i s k) where
       down-in h =
           let e : k - 1 + 1 ≡ k = omega arith in
           in-section (k - 1) (omega (arith, q .slice))
-          (ap (λ (j : ℕ). saturate (start +ℤ pos (onAxis (normalAt s) (sectionPart g i .low) + j) +ℤ wayAt s)) (sym e)
+          (ap (λ (j : ℕ). stepped g (sectionPart g i .low) s j) (sym e)
           ∙ down-from g (q .opened) (q .ranged) (sectionPart g i .low) s (k - 1) odd (omega (arith, low-normal, room, cut-normal .fits, q .slice)))
 
       module _ (foot : k ≡ 0) where
@@ -430,7 +427,7 @@ module _ (g : Shape) (c : Section) (i s k : ℕ) (q : SliceOf g c i s k) where
           unfolding sectionPart corner
           from-back u v = (λ j. added (scaled (sym back-further j)) (facing s (foot j) u v)) ∙ carry s (q .side) back 0 u v
 
-          at-back : (u v : ℕ) → onward g beyond i s k u v ≡ ahead s (cellFrom g (added (scaled back) (facing s 16 u v)))
+          at-back : (u v : ℕ) → onward g i s k u v ≡ ahead s (cellFrom g (added (scaled back) (facing s 16 u v)))
           unfolding cellIn
           at-back u v = ap (λ (d : Point). ahead s (cellFrom g d)) (from-back u v)
 
@@ -438,11 +435,12 @@ module _ (g : Shape) (c : Section) (i s k : ℕ) (q : SliceOf g c i s k) where
           down-hop {d} e =
               in-other back (i - d) 15 (omega arith) (omega (arith, back-section))
               (λ u v hu hv.
-                let w : Within (g .size) (added (scaled back) (facing s 16 u v)) = subst (Within (g .size)) (from-back u v) (within u v hu hv) in
-                let n : onAxis (normalAt s) (scaled back) + 16 < size = within-normal g (q .opened) (q .ranged) (scaled back) s 16 u v (q .side) w in
-                (at-back u v
-                  ∙ ahead-at g (q .opened) (q .ranged) (scaled back) s 16 u v (q .side) w 15 (down-from g (q .opened) (q .ranged) (scaled back) s 15 odd (omega (arith, room))),
-                  within-at g (q .opened) (q .ranged) (scaled back) s 16 u v (q .side) w 15 (omega arith)))
+              let w : Within (g .size) (added (scaled back) (facing s 16 u v)) = subst (Within (g .size)) (from-back u v) (within u v hu hv) in
+              let n : onAxis (normalAt s) (scaled back) + 16 < size = within-normal g (q .opened) (q .ranged) (scaled back) s 16 u v (q .side) w in (
+                at-back u v
+                    ∙ ahead-at g (q .opened) (q .ranged) (scaled back) s 16 u v (q .side) w 15 (down-from g (q .opened) (q .ranged) (scaled back) s 15 odd (omega (arith, room))),
+                within-at g (q .opened) (q .ranged) (scaled back) s 16 u v (q .side) w 15 (omega arith),
+              ))
 
         module _ (first : at ≡ 0) where
           pub down-shut : levelOf start + at * 16 ≡ 0 → Follows g beyond i s k N.Shut
@@ -450,7 +448,7 @@ module _ (g : Shape) (c : Section) (i s k : ℕ) (q : SliceOf g c i s k) where
               at-end (rw (way-down s odd) (down-end start fits (onAxis (normalAt s) (sectionPart g i .low) + k) (omega (arith, low-normal))))
 
           module _ (inner : levelOf start + at * 16 ≡ 0 → ⊥) where
-            down-off : insideOn start size (saturate (start +ℤ pos (onAxis (normalAt s) (sectionPart g i .low) + k) +ℤ wayAt s)) ≡ false
+            down-off : insideOn start size (stepped g (sectionPart g i .low) s k) ≡ false
             down-off = rw (way-down s odd) (down-out start fits size (onAxis (normalAt s) (sectionPart g i .low) + k) (omega (arith, low-normal)) (omega arith))
 
             pub down-open : beyond ≡ true → Follows g beyond i s k N.Open
@@ -474,144 +472,3 @@ section-is v i {p = p} ok eo en ek ep ea eb ed =
       low = λ j. pointOf (eo j .x + q j .x * 16) (eo j .y + q j .y * 16) (eo j .z + q j .z * 16);
       count = points (ea ∙ (λ j. min 16 (en j .x - q j .x * 16))) (eb ∙ (λ j. min 16 (en j .y - q j .y * 16))) (ed ∙ (λ j. min 16 (en j .z - q j .z * 16)));
     }
-
--- ---- what a slot of the mask takes
-
-module _ (g : Shape) (cells : List ℕ) (c : Section) (i s k : ℕ) (q : SliceOf g c i s k) (beyond : Bool) where
-  -- the storage index of slot (u, v) of slice t of section j
-  abbrev pub index : ℕ → ℕ → ℕ → ℕ → ℕ
-  index j t u v = j * 4096 + (t * strideOn (normalAt s) + v * strideOn (secondAt s) + u * strideOn (firstAt s))
-
-  module _ (u v : ℕ) (hu : u < widthOf (sectionPart g i) s) (hv : v < heightOf (sectionPart g i) s) where
-    abbrev cell : Cell
-    cell = cellIn g (sectionPart g i) s k u v
-
-    in-it : inside g cell ≡ true
-    in-it = section-inside g i s k u v (q .chunk) (q .side) (q .slice) hu hv
-
-    pub look-is : look g cells cell ≡ getD cells (index i k u v) 0
-    unfolding look
-    look-is =
-        ap (λ (m : ℕ). getD cells m 0)
-        (section-slot g i s k u v (q .chunk) (q .side) (q .slice) hu hv ∙ ap (λ (m : ℕ). i * 4096 + m) (within-facing s k u v (q .side)))
-
-    pub index-lt : index i k u v < sections g * 4096
-    index-lt =
-        omega (arith, slot-lt g cell (q .opened) in-it, section-slot g i s k u v (q .chunk) (q .side) (q .slice) hu hv, within-facing s k u v (q .side))
-
-    look-next : (j t : ℕ) → slot g (onward g beyond i s k u v) ≡ j * 4096 + withinAt (facing s t u v) → look g cells (onward g beyond i s k u v) ≡ getD cells (index j t u v) 0
-    unfolding look
-    look-next j t p = ap (λ (m : ℕ). getD cells m 0) (p ∙ ap (λ (m : ℕ). j * 4096 + m) (within-facing s t u v (q .side)))
-
-    pub shown-next : (j t : ℕ) → inside g (onward g beyond i s k u v) ≡ true → slot g (onward g beyond i s k u v) ≡ j * 4096 + withinAt (facing s t u v)
-        → cond (isEmpty (getD cells (index j t u v) 0)) (getD cells (index i k u v) 0) 0 ≡ sliceShown beyond g cells i s k u v
-    unfolding shown clears
-    shown-next j t e p = (λ m. cond (isEmpty (sym (look-next j t p) m)) (sym look-is m) 0) ∙ rw (in-it, e)
-
-    pub shown-open : inside g (onward g beyond i s k u v) ≡ false → beyond ≡ true → getD cells (index i k u v) 0 ≡ sliceShown beyond g cells i s k u v
-    unfolding shown clears
-    shown-open e b = sym look-is ∙ rw (in-it, e, b)
-
-    pub shown-shut : ((inside g (onward g beyond i s k u v) ≡ false) × (beyond ≡ false)) ⊎ (onward g beyond i s k u v ≡ cell) → sliceShown beyond g cells i s k u v ≡ 0
-    unfolding shown clears
-    shown-shut (inl e) = rw (in-it, e .0, e .1)
-    shown-shut (inr e) = rw (e, in-it) (same (look g cells cell))
-      where
-        same : (x : ℕ) → cond (isEmpty x) x 0 ≡ 0
-        same zero = refl
-        same (suc x) = rw (ne-eqb (suc x) 0 (λ h. omega arith))
-
--- ---- the fill of a slice
-
--- the cells of a section, as the code lends them
-abbrev pub sectionCells : List ℕ → ℕ → List ℕ
-sectionCells cells j = take (j * 4096 + 4096 - j * 4096) (drop (j * 4096) cells)
-
-module _ (cells : List ℕ) (n j : ℕ) (e : length cells ≡ n * 4096) (h : j < n) where
-  pub section-length : length (sectionCells cells j) ≡ 4096
-  section-length = length-take-le (j * 4096 + 4096 - j * 4096) (drop (j * 4096) cells) (simp length-drop (omega arith)) ∙ omega arith
-
-  section-at : (m : ℕ) → m < 4096 → getD (sectionCells cells j) m 0 ≡ getD cells (j * 4096 + m) 0
-  section-at m l = getD-take (j * 4096 + 4096 - j * 4096) (drop (j * 4096) cells) m 0 (omega arith) ∙ getD-drop (j * 4096) cells m 0
-
-steps-lt : (s t u v : ℕ) → s < 6 → t < 16 → u < 16 → v < 16 → t * strideOn (normalAt s) + v * strideOn (secondAt s) + u * strideOn (firstAt s) < 4096
-steps-lt s t u v h a b d =
-    arranged (λ n f m. t * strideOn n + v * strideOn m + u * strideOn f < 4096) (omega arith) (omega arith) (omega arith) s h
-
--- the code's numbers: width, height, and the steps along the three axes
-pub record Steps (g : Shape) (i s w h a b d : ℕ) : Type 0 where
-  pub width : w ≡ widthOf (sectionPart g i) s
-  pub height : h ≡ heightOf (sectionPart g i) s
-  pub normal : a ≡ strideOn (normalAt s)
-  pub first : b ≡ strideOn (firstAt s)
-  pub second : d ≡ strideOn (secondAt s)
-
-pub steps-are : {g : Shape} {i s : ℕ} {c : Section} {x : Axes} {w h a b d : ℕ} → SectionIs g i c → x ≡ axesAt s → w ≡ onAxis (x .first) (c .count) → h ≡ onAxis (x .second) (c .count)
-    → a ≡ strideOn (x .normal) → b ≡ strideOn (x .first) → d ≡ strideOn (x .second) → Steps g i s w h a b d
-unfolding axesAt widthOf heightOf
-steps-are q e w h a b d =
-    record {
-      width = w ∙ (λ j. onAxis (e j .first) (q .count j));
-      height = h ∙ (λ j. onAxis (e j .second) (q .count j));
-      normal = a ∙ (λ j. strideOn (e j .normal));
-      first = b ∙ (λ j. strideOn (e j .first));
-      second = d ∙ (λ j. strideOn (e j .second));
-    }
-
-module _ {g : Shape} {cells mask : List ℕ} {c : Section} {i s k to pitch : ℕ} (q : SliceIn g cells mask c i s k to pitch) {w h a b d : ℕ} (e : Steps g i s w h a b d) where
-  pub slice-lt : k < 16
-  slice-lt = omega (arith, cut-normal g c i s k (q .from) .most, q .from .slice)
-
-  pub start-lt : {t : ℕ} → t < 16 → t * a < 4096
-  start-lt {t} m = rw (e .normal) (omega (arith, steps-lt s t 0 0 (q .from .side) m (omega arith) (omega arith)))
-
-  pub plane-in : {j t : ℕ} → j < sections g → t < 16 → PlaneIn (t * a) b d w h (length (sectionCells cells j))
-  plane-in {j} {t} l m =
-      rw (e .width, e .height, e .normal, e .first, e .second, section-length cells (sections g) j (q .cells-are) l)
-      (record {
-        room = λ u v hu hv. let n = narrow g c i s k (q .from) u v hu hv in steps-lt s t u v (q .from .side) m (n .0) (n .1);
-        start = λ v hv. let n = narrow g c i s k (q .from) 0 v (extents g c i s k (q .from) .0) hv in omega (arith, steps-lt s t 0 v (q .from .side) m (omega arith) (n .1));
-      })
-
-  pub plane-to : PlaneTo to pitch w h (length mask) (k * a) b d (length (sectionCells cells i))
-  plane-to =
-      record {
-        mask = rw (e .width, e .height) (record { apart = q .wide; room = q .rows });
-        here = plane-in (q .from .chunk) slice-lt;
-      }
-
-  module _ (beyond : Bool) where
-    seen-at : {j t u v : ℕ} → j < sections g → t < 16 → u < widthOf (sectionPart g i) s → v < heightOf (sectionPart g i) s
-        → getD (sectionCells cells j) (t * strideOn (normalAt s) + v * strideOn (secondAt s) + u * strideOn (firstAt s)) 0 ≡ getD cells (index g cells c i s k (q .from) beyond j t u v) 0
-    seen-at {j} {t} {u} {v} l m hu hv =
-        let n = narrow g c i s k (q .from) u v hu hv in
-        section-at cells (sections g) j (q .cells-are) l (t * strideOn (normalAt s) + v * strideOn (secondAt s) + u * strideOn (firstAt s)) (steps-lt s t u v (q .from .side) m (n .0) (n .1))
-
-    pub filled-next : {m′ : List ℕ} {r j t : ℕ} → Follows g beyond i s k (N.At j t) → Filled mask m′ r to pitch w h (seenPlane (sectionCells cells i) (sectionCells cells j) (k * a) (t * a) b d)
-        → Filled mask m′ r to pitch (widthOf (sectionPart g i) s) (heightOf (sectionPart g i) s) (sliceShown beyond g cells i s k)
-    unfolding seenAt
-    filled-next {j = j} {t = t} f l =
-        filled-as (λ u v hu hv.
-          (λ x. cond (isEmpty (seen-at (f .0) (f .1) hu hv x)) (seen-at (q .from .chunk) slice-lt hu hv x) 0)
-          ∙ (let n = f .2 u v hu hv in shown-next g cells c i s k (q .from) beyond u v hu hv j t (n .0) (n .1)))
-        (rw (e .width, e .height, e .normal, e .first, e .second) at l)
-
-    pub filled-open : {m′ : List ℕ} {r : ℕ} → Follows g beyond i s k N.Open → Filled mask m′ r to pitch w h (cellPlane (sectionCells cells i) (k * a) b d)
-        → Filled mask m′ r to pitch (widthOf (sectionPart g i) s) (heightOf (sectionPart g i) s) (sliceShown beyond g cells i s k)
-    filled-open f l =
-        filled-as (λ u v hu hv.
-          seen-at (q .from .chunk) slice-lt hu hv
-          ∙ (let n = f u v hu hv in shown-open g cells c i s k (q .from) beyond u v hu hv (n .0) (n .1)))
-        (rw (e .width, e .height, e .normal, e .first, e .second) at l)
-
-  -- what is hidden leaves the mask as it was
-  pub filled-shut : (beyond : Bool) {r : ℕ} → Follows g beyond i s k N.Shut → Filled mask mask r to pitch (widthOf (sectionPart g i) s) (heightOf (sectionPart g i) s) (sliceShown beyond g cells i s k)
-  filled-shut beyond f =
-      record {
-        mask = record {
-          same = refl;
-          laid = λ u v hu hv. q .zero u v hu hv ∙ sym (shown-shut g cells c i s k (q .from) beyond u v hu hv (f u v hu hv));
-          kept = λ _ _. refl;
-        };
-        quiet = λ _ u v hu hv. shown-shut g cells c i s k (q .from) beyond u v hu hv (f u v hu hv);
-      }

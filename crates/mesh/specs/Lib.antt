@@ -12,4 +12,5 @@ pub mod Quad
 pub mod Scan
 pub mod Slice
 pub mod Step
+pub mod Tiles
 pub mod Visible

@@ -1,22 +1,24 @@
 -- Claiming panels one at a time from a mask of a slice.
-use Prim.Native.Nat.{ℕ, _+_, _-_, _*_, _/_, _%_, _≤_, _<_, _^_, min}
-use mathlib.Core.Path.{_≡_}
+use Prim.Native.Nat.{ℕ, zero, suc, _+_, _-_, _*_, _/_, _%_, _<_, _^_, min}
 use mathlib.Core.Bool.{cond, _&&_}
-use mathlib.Core.List.{List}
+use mathlib.Core.List.{List, [], _∷_}
 use mathlib.Core.Option.{Option, none, some}
 use lib.Dec.{leb, ltb}
 use lib.IntN.{pos}
 use lib.ListN.{length}
-use Rattle.stand.specs.Cells.{moved}
+use Rattle.stand.specs.Cells.{cellOf, moved}
 use Rattle.stand.specs.Shape.{pointOf}
 use Rattle.stand.specs.Sides.{sideNumber}
 use Rattle.stand.specs.Storage.{extentOf}
 use Rattle.stand.specs.declared.Cell.{Cell}
 use Rattle.stand.specs.declared.volume.Extent.{Extent}
 use Rattle.stand.specs.declared.volume.shape.Point.{Point}
+use Rattle.mesh.specs.Frame.{alongFrame}
+use Rattle.mesh.specs.Panels.{faceOf}
 use Rattle.mesh.specs.Part.{facing}
 use Rattle.mesh.specs.Scan.{Rect, clearOf, rectAt, runLen}
 use Rattle.mesh.specs.declared.Quad.{Quad}
+use Rattle.mesh.specs.declared.scan.Frame.{Frame}
 use Rattle.mesh.specs.declared.slice.Claimed.{Claimed}
 use Rattle.mesh.specs.declared.slice.Claimed.the-variants as C
 use Rattle.mesh.specs.declared.slice.Slice.{Slice}
@@ -77,6 +79,33 @@ claimCall s m from =
     cond (leb (s .height * s .width) (length m) && ltb (firstSeen m from (s .height * s .width)) (s .height * s .width))
     (claimFrom s m (firstSeen m from (s .height * s .width)))
     (outcomeOf none m)
+
+-- ---- claims one after the other, each from the cursor that the last one gave
+
+pub record Claims : Type 0 where
+  pub mask : List ℕ
+  pub quads : List Quad
+
+-- what an answer and the claims from its cursor on make
+abbrev pub onward : Option Taken → List ℕ → (ℕ → Claims) → Claims
+onward none m on = record { mask = m; quads = [] }
+onward (some t) m on = record { mask = on (t .next) .mask; quads = t .quad ∷ on (t .next) .quads }
+
+-- until none is left, at most n
+unfoldable pub claimsTo : ℕ → Slice → List ℕ → ℕ → Claims
+claimsTo zero s m from = record { mask = m; quads = [] }
+claimsTo (suc n) s m from = onward (claimCall s m from .answer) (claimCall s m from .mask) (claimsTo n s (claimCall s m from .mask))
+
+-- ---- the slice that lies as a frame says
+
+unfoldable pub sliceFrom : Frame → Slice
+sliceFrom f =
+    record {
+      cell = cellOf (alongFrame f 0 0 0) (alongFrame f 0 0 1) (alongFrame f 0 0 2);
+      face = faceOf (f .side);
+      width = f .width;
+      height = f .height;
+    }
 
 -- ---- for the code
 

@@ -54,20 +54,19 @@ pub record SliceIn (g : Shape) (cells mask : List ℕ) (c : Section) (i s k to p
 abbrev pub sliceShown : Bool → Shape → List ℕ → ℕ → ℕ → ℕ → ℕ → ℕ → ℕ
 sliceShown beyond g cells i s k u v = shown beyond g (look g cells) s (cellIn g (sectionPart g i) s k u v)
 
--- what next says of the cells one step on from slice k of side s of section i
-module _ (g : Shape) (beyond : Bool) (i s k : ℕ) where
-  -- the cell one step on from slot (u, v)
-  abbrev pub onward : ℕ → ℕ → Cell
-  onward u v = ahead s (cellIn g (sectionPart g i) s k u v)
+-- the cell one step on from slot (u, v) of slice k of side s of section i
+abbrev pub onward : Shape → ℕ → ℕ → ℕ → ℕ → ℕ → Cell
+onward g i s k u v = ahead s (cellIn g (sectionPart g i) s k u v)
 
-  abbrev pub EachSlot : (ℕ → ℕ → Type 0) → Type 0
-  EachSlot P = (u v : ℕ) → u < widthOf (sectionPart g i) s → v < heightOf (sectionPart g i) s → P u v
+abbrev pub EachSlot : Shape → ℕ → ℕ → (ℕ → ℕ → Type 0) → Type 0
+EachSlot g i s P = (u v : ℕ) → u < widthOf (sectionPart g i) s → v < heightOf (sectionPart g i) s → P u v
 
-  abbrev pub Follows : Next → Type 0
-  Follows (N.At j t) =
-      (j < sections g) × (t < 16)
-      × EachSlot (λ u v. (inside g (onward u v) ≡ true) × (slot g (onward u v) ≡ j * 4096 + withinAt (facing s t u v)))
-  Follows N.Open = EachSlot (λ u v. (inside g (onward u v) ≡ false) × (beyond ≡ true))
-  Follows N.Shut =
-      EachSlot (λ u v.
-        ((inside g (onward u v) ≡ false) × (beyond ≡ false)) ⊎ (onward u v ≡ cellIn g (sectionPart g i) s k u v))
+-- what next says of the cells one step on from a slice
+abbrev pub Follows : Shape → Bool → ℕ → ℕ → ℕ → Next → Type 0
+Follows g beyond i s k (N.At j t) =
+    (j < sections g) × (t < 16)
+    × EachSlot g i s (λ u v. (inside g (onward g i s k u v) ≡ true) × (slot g (onward g i s k u v) ≡ j * 4096 + withinAt (facing s t u v)))
+Follows g beyond i s k N.Open = EachSlot g i s (λ u v. (inside g (onward g i s k u v) ≡ false) × (beyond ≡ true))
+Follows g beyond i s k N.Shut =
+    EachSlot g i s (λ u v.
+    ((inside g (onward g i s k u v) ≡ false) × (beyond ≡ false)) ⊎ (onward g i s k u v ≡ cellIn g (sectionPart g i) s k u v))

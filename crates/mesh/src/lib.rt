@@ -14,6 +14,7 @@ mod part;
 mod plane;
 mod scan;
 pub mod slice;
+mod tiles;
 
 // What lies outside the stand: document 01's outside rule.
 pub enum Beyond {

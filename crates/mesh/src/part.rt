@@ -10,10 +10,14 @@ ghost use Rattle.mesh.specs.Step.{Follows, SectionIs, SliceIn, SliceOf, 
 use crate::plane::fill_outer;
 use crate::plane::fill_plane;
 use stand::Axes;
+use stand::volume::CHUNK;
 use stand::volume::Volume;
 use stand::volume::shape::Point;
 use stand::volume::shape::counts;
 use stand::volume::shape::levels;
+
+// Cells in one chunk.
+const CELLS: usize = 4_096;
 
 // A section: the levels of its lowest cell, its cells along each axis that are inside, its place, and the chunks of the stand.
 pub struct Section {
@@ -76,10 +80,10 @@ fn cut(size: u64, from: u64) -> u64
     if size <= from {
         return 0;
     }
-    if size - from < 16 {
+    if size - from < CHUNK {
         return size - from;
     }
-    16
+    CHUNK
 }
 
 // The place of a section.
@@ -93,7 +97,7 @@ fn place_in(k: Point, chunk: u64) -> Point
     Point { x, y, z }
 }
 
-// Where a section lies. Rules out a section that is not cut short by the size, and coordinates as levels from the origin.
+// Where a section lies. Rules out one that the size does not cut short, and two axes swapped.
 pub(crate) fn section_of(v: Volume, chunk: usize) -> Section
     requires { ⌜ (wellFormed v ≡ true) × (chunk < sections (shapeOf v)) ⌝ }
     ensures { λ r. ⌜ SectionIs (shapeOf v) chunk r ⌝ }
@@ -105,16 +109,37 @@ pub(crate) fn section_of(v: Volume, chunk: usize) -> Section
     let n = counts(size);
     let chunks = counts(sections);
     let place = place_in(chunks, chunk as u64);
-    let x = place.x * 16;
-    let y = place.y * 16;
-    let z = place.z * 16;
-    let low = Point { x: o.x + x, y: o.y + y, z: o.z + z };
-    let count = Point { x: cut(n.x, x), y: cut(n.y, y), z: cut(n.z, z) };
-    Section { low, count, place, chunks }
+    let x = place.x * CHUNK;
+    let y = place.y * CHUNK;
+    let z = place.z * CHUNK;
+    let low = Point {
+        x: o.x + x,
+        y: o.y + y,
+        z: o.z + z,
+    };
+    let count = Point {
+        x: cut(n.x, x),
+        y: cut(n.y, y),
+        z: cut(n.z, z),
+    };
+    Section {
+        low,
+        count,
+        place,
+        chunks,
+    }
 }
 
 // One step up from a slice.
-fn next_up(v: Volume, c: Section, chunk: usize, side: usize, normal: usize, slice: usize, beyond: bool) -> Next
+fn next_up(
+    v: Volume,
+    c: Section,
+    chunk: usize,
+    side: usize,
+    normal: usize,
+    slice: usize,
+    beyond: bool,
+) -> Next
     requires { ⌜ SliceOf (shapeOf v) c chunk side slice × (normal ≡ normalAt side) × (side % 2 ≡ 0) ⌝ }
     ensures { λ r. ⌜ Follows (shapeOf v) beyond chunk side slice r ⌝ }
 {
@@ -138,7 +163,15 @@ fn next_up(v: Volume, c: Section, chunk: usize, side: usize, normal: usize, slic
 }
 
 // One step down from a slice.
-fn next_down(v: Volume, c: Section, chunk: usize, side: usize, normal: usize, slice: usize, beyond: bool) -> Next
+fn next_down(
+    v: Volume,
+    c: Section,
+    chunk: usize,
+    side: usize,
+    normal: usize,
+    slice: usize,
+    beyond: bool,
+) -> Next
     requires { ⌜ SliceOf (shapeOf v) c chunk side slice × (normal ≡ normalAt side) × (side % 2 ≡ 1) ⌝ }
     ensures { λ r. ⌜ Follows (shapeOf v) beyond chunk side slice r ⌝ }
 {
@@ -161,7 +194,15 @@ fn next_down(v: Volume, c: Section, chunk: usize, side: usize, normal: usize, sl
 }
 
 // What lies one step on from a slice. Rules out a step that wraps at the ends of i32, and the outside where a section follows.
-fn next_of(v: Volume, c: Section, chunk: usize, side: usize, normal: usize, slice: usize, beyond: bool) -> Next
+fn next_of(
+    v: Volume,
+    c: Section,
+    chunk: usize,
+    side: usize,
+    normal: usize,
+    slice: usize,
+    beyond: bool,
+) -> Next
     requires { ⌜ SliceOf (shapeOf v) c chunk side slice × (normal ≡ normalAt side) ⌝ }
     ensures { λ r. ⌜ Follows (shapeOf v) beyond chunk side slice r ⌝ }
 {
@@ -172,7 +213,19 @@ fn next_of(v: Volume, c: Section, chunk: usize, side: usize, normal: usize, slic
 }
 
 // The mask of one slice, from this plane and the next one; 0 says that nothing is visible.
-pub(crate) fn fill_slice(mask: &mut [u16], to: usize, pitch: usize, cells: &[u16], v: Volume, c: Section, chunk: usize, side: usize, axes: Axes, slice: usize, beyond: bool) -> u16
+pub(crate) fn fill_slice(
+    mask: &mut [u16],
+    to: usize,
+    pitch: usize,
+    cells: &[u16],
+    v: Volume,
+    c: Section,
+    chunk: usize,
+    side: usize,
+    axes: Axes,
+    slice: usize,
+    beyond: bool,
+) -> u16
     requires { ⌜ SliceIn (shapeOf v) (now cells) (now mask) c chunk side slice to pitch × (axes ≡ axesAt side) ⌝ }
     ensures { λ r. ⌜ Filled (now (mask .entry)) (now (mask .exit)) r to pitch (widthOf (sectionPart (shapeOf v) chunk) side) (heightOf (sectionPart (shapeOf v) chunk) side) (sliceShown beyond (shapeOf v) (now (cells .entry)) chunk side slice) ⌝ }
 {
@@ -183,15 +236,27 @@ pub(crate) fn fill_slice(mask: &mut [u16], to: usize, pitch: usize, cells: &[u16
     let normal = stride_on(axes.normal);
     let first = stride_on(axes.first);
     let second = stride_on(axes.second);
-    let from = chunk * 4096;
-    let end = from + 4096;
+    let from = chunk * CELLS;
+    let end = from + CELLS;
     let here = &cells[from..end];
     match next {
         Next::At(k, t) => {
-            let start = k * 4096;
-            let stop = start + 4096;
+            let start = k * CELLS;
+            let stop = start + CELLS;
             let there = &cells[start..stop];
-            return fill_plane(mask, to, pitch, here, slice * normal, there, t * normal, first, second, w, h);
+            return fill_plane(
+                mask,
+                to,
+                pitch,
+                here,
+                slice * normal,
+                there,
+                t * normal,
+                first,
+                second,
+                w,
+                h,
+            );
         }
         Next::Open => {
             return fill_outer(mask, to, pitch, here, slice * normal, first, second, w, h);

@@ -44,6 +44,7 @@ fn turn(side: usize, k: u64, u: u64, v: u64) -> Point
     Point { x: u, y: v, z: k }
 }
 
+// A cell moved by whole steps, saturating. By levels, since a step may pass i32.
 fn shift(c: Cell, d: Point) -> Cell
     requires { ⌜ Below (2 ^ 63) d ⌝ }
     ensures { λ r. ⌜ r ≡ shifted c d ⌝ }
@@ -55,6 +56,7 @@ fn shift(c: Cell, d: Point) -> Cell
     Cell { x, y, z }
 }
 
+// Extents; one past i32 is held to 2,147,483,647.
 fn hold(d: Point) -> Extent
     requires { ⌜ Below (2 ^ 63) d ⌝ }
     ensures { λ r. ⌜ r ≡ heldExtent d ⌝ }

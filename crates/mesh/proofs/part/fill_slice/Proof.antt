@@ -1,3 +1,4 @@
+-- `mesh::part::fill_slice` meets its contract.
 use borrow.Author.Needs.{needs}
 use native.Mathlib.Omega.{arith}
 use mathlib.Core.Path.{ap, subst}
@@ -7,16 +8,10 @@ use Rattle.stand.specs.declared.Axes.{Axes}
 use Rattle.mesh.specs.Step.{Follows}
 use Rattle.mesh.specs.declared.part.Next.{Next}
 use Rattle.mesh.specs.declared.part.Next.the-variants as N
-use Rattle.mesh.proofs.Step.{Steps, few, filled-next, filled-open, filled-shut, plane-in, plane-to, slice-lt, start-lt, steps-are}
+use Rattle.mesh.proofs.Step.{few}
+use Rattle.mesh.proofs.Shown.{Steps, filled-next, filled-open, filled-shut, plane-in, plane-to, slice-lt, start-lt, steps-are}
 use Rattle.mesh.proofs.part.fill_slice.Statement.{statement}
 use Rattle.mesh.proofs.part.fill_slice.Tie as tie
-use Rattle.mesh.proofs.part.fill_slice.Reads as reads
-use Rattle.mesh.proofs.part.fill_slice.Lts as lts
-use Rattle.mesh.proofs.part.next_of.Reads as next-of-reads
-use Rattle.mesh.proofs.part.on_axis.Reads as on-axis-reads
-use Rattle.mesh.proofs.part.stride_on.Reads as stride-on-reads
-use Rattle.mesh.proofs.plane.fill_outer.Reads as fill-outer-reads
-use Rattle.mesh.proofs.plane.fill_plane.Reads as fill-plane-reads
 
 abbrev follows : tie.After-next-of → Next → Type 0
 follows c = let s = c .before .before .before in Follows (shapeOf (s .args .v)) (s .args .beyond) (s .args .chunk) (s .args .side) (s .args .slice)
@@ -29,128 +24,97 @@ steps c =
     let s = c .before .before .before .before .before .before .before .before .before in
     steps-are (s .pre .0 .from .section) (s .pre .1) (c .before .before .before .before .on-axis .ensures) (c .before .before .before .on-axis2 .ensures) (c .before .before .stride-on .ensures) (c .before .stride-on2 .ensures) (c .stride-on3 .ensures)
 
--- src/part.rt:179:9
 next-of-requires : tie.Need-next-of-requires
 unfolding axesAt
 next-of-requires c κs = let s = c .before .before in (s .pre .0 .from, ap (λ (x : Axes). x .normal) (s .pre .1))
 
--- src/part.rt:181:13
 on-axis-requires : tie.Need-on-axis-requires
 on-axis-requires c κs = search needs
 
--- src/part.rt:182:13
 on-axis-requires-2 : tie.Need-on-axis-requires-2
 on-axis-requires-2 c κs = search needs
 
--- src/part.rt:183:9
 stride-on-requires : tie.Need-stride-on-requires
 stride-on-requires c κs = search needs
 
--- src/part.rt:184:9
 stride-on-requires-2 : tie.Need-stride-on-requires-2
 stride-on-requires-2 c κs = search needs
 
--- src/part.rt:185:9
 stride-on-requires-3 : tie.Need-stride-on-requires-3
 stride-on-requires-3 c κs = search needs
 
--- src/part.rt:186:16
 mul-from : tie.Need-mul-from
 mul-from c = search needs
 
--- src/part.rt:187:15
 add-end : tie.Need-add-end
 add-end c = search needs
 
--- src/part.rt:188:16
 mul-here : tie.Need-mul-here
 mul-here c = search needs
 
--- src/part.rt:188:16
 sub-here : tie.Need-sub-here
 sub-here c = search needs
 
--- src/part.rt:188:16
 part-here-start : tie.Need-part-here-start
 part-here-start c = search needs
 
--- src/part.rt:188:16
 part-here-end : tie.Need-part-here-end
 part-here-end c = search needs
 
--- src/part.rt:190:18
 enum-known-next : tie.Need-enum-known-next
 enum-known-next c = search needs
 
--- src/part.rt:191:25
 mul-start : tie.Need-mul-start
 mul-start c = let s = c .before .before .before .before .before .before .before .before .before .before .before .before .before in omega (arith, next (c .before) .0, few _ _ _ _ _ (s .pre .0 .from))
 
--- src/part.rt:192:24
 add-stop : tie.Need-add-stop
 add-stop c = let s = c .before .before .before .before .before .before .before .before .before .before .before .before .before in omega (arith, next (c .before) .0, few _ _ _ _ _ (s .pre .0 .from))
 
--- src/part.rt:193:25
 mul-there : tie.Need-mul-there
 mul-there c = let s = c .before .before .before .before .before .before .before .before .before .before .before .before .before in omega (arith, next (c .before) .0, few _ _ _ _ _ (s .pre .0 .from))
 
--- src/part.rt:193:25
 sub-there : tie.Need-sub-there
 sub-there c = search needs
 
--- src/part.rt:193:25
 part-there-start : tie.Need-part-there-start
 part-there-start c = search needs
 
--- src/part.rt:193:25
 part-there-end : tie.Need-part-there-end
 part-there-end c = let s = c .before .before .before .before .before .before .before .before .before .before .before .before .before in omega (arith, next (c .before) .0, s .pre .0 .cells-are)
 
--- src/part.rt:194:54
 mul-fill-plane : tie.Need-mul-fill-plane
 mul-fill-plane c = let s = c .before .before .before .before .before .before .before .before .before .before .before .before .before .before .before in omega (arith, start-lt (s .pre .0) (steps (c .before .before .before .before .before .before)) (slice-lt (s .pre .0) (steps (c .before .before .before .before .before .before))))
 
--- src/part.rt:194:77
 mul-fill-plane-2 : tie.Need-mul-fill-plane-2
 mul-fill-plane-2 c = let s = c .before .before .before .before .before .before .before .before .before .before .before .before .before .before .before in omega (arith, start-lt (s .pre .0) (steps (c .before .before .before .before .before .before)) (next (c .before .before .before) .1))
 
--- src/part.rt:194:13
 fill-plane-requires : tie.Need-fill-plane-requires
 fill-plane-requires c κs = let s = c .before .before .before .before .before .before .before .before .before .before .before .before .before .before .before in (plane-to (s .pre .0) (steps (c .before .before .before .before .before .before)), plane-in (s .pre .0) (steps (c .before .before .before .before .before .before)) (next (c .before .before .before) .0) (next (c .before .before .before) .1))
 
--- src/part.rt:194:13
 same-length : tie.Need-same-length
 same-length c = search needs
 
--- src/part.rt:194:13
 returns : tie.Need-returns
 returns c = let s = c .before .before .before .before .before .before .before .before .before .before .before .before .before .before .before .before .before .before in filled-next (s .pre .0) (steps (c .before .before .before .before .before .before .before .before .before)) (s .args .beyond) (next (c .before .before .before .before .before .before)) (c .before .before .fill-plane .ensures)
 
--- src/part.rt:197:31
 enum-told : tie.Need-enum-told
 enum-told c = search needs
 
--- src/part.rt:197:54
 mul-fill-outer : tie.Need-mul-fill-outer
 mul-fill-outer c = let s = c .before .before .before .before .before .before .before .before .before .before .before .before .before in omega (arith, start-lt (s .pre .0) (steps (c .before .before .before .before)) (slice-lt (s .pre .0) (steps (c .before .before .before .before))))
 
--- src/part.rt:197:13
 fill-outer-requires : tie.Need-fill-outer-requires
 fill-outer-requires c κs = let s = c .before .before .before .before .before .before .before .before .before .before .before .before .before in plane-to (s .pre .0) (steps (c .before .before .before .before))
 
--- src/part.rt:197:13
 same-length-2 : tie.Need-same-length-2
 same-length-2 c = search needs
 
--- src/part.rt:197:13
 returns-2 : tie.Need-returns-2
 returns-2 c = let s = c .before .before .before .before .before .before .before .before .before .before .before .before .before .before .before .before in filled-open (s .pre .0) (steps (c .before .before .before .before .before .before .before)) (s .args .beyond) (subst (follows (c .before .before .before .before .before .before .before .before .before .before .before .before .before)) (c .before .before .before .before .enum-told .given .1) (c .before .before .before .before .before .before .before .before .before .before .before .before .before .next-of .ensures)) (c .before .before .fill-outer .ensures)
 
--- src/part.rt:200:13
 enum-told-2 : tie.Need-enum-told-2
 enum-told-2 c = search needs
 
--- src/part.rt:200:13
 returns-3 : tie.Need-returns-3
 returns-3 c = let s = c .before .before .before .before .before .before .before .before .before .before .before .before in filled-shut (s .pre .0) (steps (c .before .before .before)) (s .args .beyond) (subst (follows (c .before .before .before .before .before .before .before .before .before)) (c .enum-told2 .given .1) (c .before .before .before .before .before .before .before .before .before .next-of .ensures))
 

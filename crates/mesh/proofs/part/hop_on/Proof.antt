@@ -1,3 +1,4 @@
+-- `mesh::part::hop_on` meets its contract.
 use borrow.Author.Needs.{needs}
 use Prim.Native.Nat.{_*_}
 use mathlib.Core.Path.{_≡_, refl}
@@ -5,22 +6,16 @@ use Rattle.mesh.specs.Step.{hopOn}
 use Rattle.mesh.proofs.Parts.{third}
 use Rattle.mesh.proofs.part.hop_on.Statement.{statement}
 use Rattle.mesh.proofs.part.hop_on.Tie as tie
-use Rattle.mesh.proofs.part.hop_on.Reads as reads
-use Rattle.mesh.proofs.part.hop_on.Lts as lts
 
--- src/part.rt:64:9
 returns : tie.Need-returns
 returns c = search needs
 
--- src/part.rt:67:9
 returns-2 : tie.Need-returns-2
 returns-2 c = search needs
 
--- src/part.rt:69:5
 mul-result : tie.Need-mul-result
 mul-result c = search needs
 
--- src/part.rt:59:1
 returns-3 : tie.Need-returns-3
 returns-3 c = let s = c .before .before .before in third (λ a. s .args .k .x * s .args .k .y ≡ hopOn (s .args .k) a) (λ b. refl) _ (c .before .before .if1 .left) (c .before .if2 .left)
 

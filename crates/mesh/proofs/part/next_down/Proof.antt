@@ -1,3 +1,4 @@
+-- `mesh::part::next_down` meets its contract.
 use borrow.Author.Needs.{needs}
 use native.Mathlib.Omega.{arith}
 use mathlib.Core.Path.{_≡_}
@@ -8,10 +9,6 @@ use Rattle.stand.specs.Sides.{normalAt}
 use Rattle.mesh.proofs.Step.{at, coordOn, down-closed, down-hop, down-in, down-open, down-shut, hop-is, hop-le, low-is, place-is, plane-few}
 use Rattle.mesh.proofs.part.next_down.Statement.{statement}
 use Rattle.mesh.proofs.part.next_down.Tie as tie
-use Rattle.mesh.proofs.part.next_down.Reads as reads
-use Rattle.mesh.proofs.part.next_down.Lts as lts
-use Rattle.mesh.proofs.part.hop_on.Reads as hop-on-reads
-use Rattle.mesh.proofs.part.on_axis.Reads as on-axis-reads
 
 foot : (c : tie.Else1) → c .before .args .slice ≡ 0
 foot c = omega (arith, c .if1 .left)
@@ -29,43 +26,33 @@ level c = let s = c .before .before .before .before .before .before in low-is _ 
 inner : (c : tie.Else3) → let s = c .before .before .before .before .before .before .before in levelOf (coordOn (normalAt (s .args .side)) (shapeOf (s .args .v) .origin)) + at _ _ _ _ _ (s .pre .0) * 16 ≡ 0 → ⊥
 inner c e = c .if3 .left (omega (arith, level (c .before)))
 
--- src/part.rt:146:32
 sub-t12 : tie.Need-sub-t12
 sub-t12 c = search needs
 
--- src/part.rt:146:9
 returns : tie.Need-returns
 returns c = down-in _ _ _ _ _ (c .before .pre .0) (c .before .args .beyond) (c .before .pre .2) (c .if1 .taken)
 
--- src/part.rt:149:12
 on-axis-requires : tie.Need-on-axis-requires
 on-axis-requires c κs = search needs
 
--- src/part.rt:151:33
 hop-on-requires : tie.Need-hop-on-requires
 hop-on-requires c κs = plane-few _ _ _ _ _ (c .before .before .before .before .before .pre .0)
 
--- src/part.rt:151:25
 sub-t16 : tie.Need-sub-t16
 sub-t16 c = let s = c .before .before .before .before .before .before in hop-le _ _ _ _ _ (s .pre .0) (s .args .beyond) (s .pre .2) (foot (c .before .before .before .before .before)) (some (c .before .before)) (hop-is _ _ _ _ _ (s .pre .0) (s .pre .1) (c .hop-on .ensures))
 
--- src/part.rt:151:9
 returns-2 : tie.Need-returns-2
 returns-2 c = let s = c .before .before .before .before .before .before in down-hop _ _ _ _ _ (s .pre .0) (s .args .beyond) (s .pre .2) (foot (c .before .before .before .before .before)) (some (c .before .before)) (hop-is _ _ _ _ _ (s .pre .0) (s .pre .1) (c .hop-on .ensures))
 
--- src/part.rt:154:8
 on-axis-requires-2 : tie.Need-on-axis-requires-2
 on-axis-requires-2 c κs = search needs
 
--- src/part.rt:155:9
 returns-3 : tie.Need-returns-3
 returns-3 c = let s = c .before .before .before .before .before .before .before in down-shut _ _ _ _ _ (s .pre .0) (s .args .beyond) (s .pre .2) (foot (c .before .before .before .before .before .before)) (first (c .before .before .before)) (omega (arith, level (c .before), c .if3 .taken))
 
--- src/part.rt:158:9
 returns-4 : tie.Need-returns-4
 returns-4 c = let s = c .before .before .before .before .before .before .before .before in down-open _ _ _ _ _ (s .pre .0) (s .args .beyond) (s .pre .2) (foot (c .before .before .before .before .before .before .before)) (first (c .before .before .before .before)) (inner (c .before)) (c .if4 .taken)
 
--- src/part.rt:141:1
 returns-5 : tie.Need-returns-5
 returns-5 c = let s = c .before .before .before .before .before .before .before .before in down-closed _ _ _ _ _ (s .pre .0) (s .args .beyond) (s .pre .2) (foot (c .before .before .before .before .before .before .before)) (first (c .before .before .before .before)) (inner (c .before)) (c .if4 .left)
 

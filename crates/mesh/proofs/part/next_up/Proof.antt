@@ -1,20 +1,17 @@
+-- `mesh::part::next_up` meets its contract.
 use borrow.Author.Needs.{needs}
 use native.Mathlib.Omega.{arith}
 use mathlib.Core.Path.{_≡_}
-use Prim.Native.Nat.{_+_, _*_, _≤_, _<_}
+use Prim.Native.Nat.{_+_, _*_, _≤_}
 use Rattle.arith.specs.Level.{levelOf}
 use Rattle.stand.specs.Shape.{chunksOn, shapeOf}
 use Rattle.stand.specs.Sides.{normalAt}
 use Rattle.mesh.specs.Part.{depthOf, onAxis, sectionPart}
 use Rattle.mesh.specs.Step.{Follows}
 use Rattle.mesh.specs.declared.part.Next.the-variants as N
-use Rattle.mesh.proofs.Step.{at, chunks-is, coordOn, cut-normal, depth-is, few, hop-is, level-lt, low-is, place-is,  plane-few, up-closed, up-hop, up-in, up-open, up-shut}
+use Rattle.mesh.proofs.Step.{at, chunks-is, coordOn, cut-normal, depth-is, few, hop-is, level-lt, low-is, place-is, plane-few, up-closed, up-hop, up-in, up-open, up-shut}
 use Rattle.mesh.proofs.part.next_up.Statement.{statement}
 use Rattle.mesh.proofs.part.next_up.Tie as tie
-use Rattle.mesh.proofs.part.next_up.Reads as reads
-use Rattle.mesh.proofs.part.next_up.Lts as lts
-use Rattle.mesh.proofs.part.hop_on.Reads as hop-on-reads
-use Rattle.mesh.proofs.part.on_axis.Reads as on-axis-reads
 
 -- the last slice of its section
 top : (c : tie.Else1) → depthOf (sectionPart (shapeOf (c .before .before .before .args .v)) (c .before .before .before .args .chunk)) (c .before .before .before .args .side) ≤ c .before .before .before .args .slice + 1
@@ -38,65 +35,50 @@ level c = let s = c .before .before .before .before .before .before .before .bef
 inner : (c : tie.Else3) → let s = c .before .before .before .before .before .before .before .before .before .before .before in levelOf (coordOn (normalAt (s .args .side)) (shapeOf (s .args .v) .origin)) + at _ _ _ _ _ (s .pre .0) * 16 + s .args .slice ≡ 4294967295 → ⊥
 inner c e = c .if3 .left (omega (arith, level (c .before)))
 
--- src/part.rt:122:8
 add-if1 : tie.Need-add-if1
 add-if1 c = omega (arith, cut-normal _ _ _ _ _ (c .before .pre .0) .most, c .before .pre .0 .slice)
 
--- src/part.rt:122:27
 on-axis-requires : tie.Need-on-axis-requires
 on-axis-requires c κs = search needs
 
--- src/part.rt:123:32
 add-t16 : tie.Need-add-t16
 add-t16 c = search needs
 
--- src/part.rt:123:9
 returns : tie.Need-returns
-returns c = 
+returns c =
     let s = c .before .before .before in
     up-in _ _ _ _ _ (s .pre .0) (s .args .beyond) (s .pre .2) (omega (arith, depth-is _ _ _ _ _ (s .pre .0) (s .pre .1) (c .before .on-axis .ensures), c .if1 .taken))
 
--- src/part.rt:127:8
 on-axis-requires-2 : tie.Need-on-axis-requires-2
 on-axis-requires-2 c κs = search needs
 
--- src/part.rt:127:8
 add-if2 : tie.Need-add-if2
 add-if2 c = omega (arith, level-lt _ _ _ _ _ (c .before .before .before .before .before .before .pre .0), place-is _ _ _ _ _ (c .before .before .before .before .before .before .pre .0) (c .before .before .before .before .before .before .pre .1) (c .on-axis2 .ensures))
 
--- src/part.rt:127:37
 on-axis-requires-3 : tie.Need-on-axis-requires-3
 on-axis-requires-3 c κs = search needs
 
--- src/part.rt:128:33
 hop-on-requires : tie.Need-hop-on-requires
 hop-on-requires c κs = plane-few _ _ _ _ _ (c .before .before .before .before .before .before .before .before .pre .0)
 
--- src/part.rt:128:25
 add-t19 : tie.Need-add-t19
 add-t19 c = omega (arith, hops c .0, few _ _ _ _ _ (c .before .before .before .before .before .before .before .before .before .pre .0))
 
--- src/part.rt:128:9
 returns-2 : tie.Need-returns-2
 returns-2 c = hops c
 
--- src/part.rt:131:8
 on-axis-requires-4 : tie.Need-on-axis-requires-4
 on-axis-requires-4 c κs = search needs
 
--- src/part.rt:131:8
 add-if3 : tie.Need-add-if3
 add-if3 c = omega (arith, level c, level-lt _ _ _ _ _ (c .before .before .before .before .before .before .before .before .before .before .pre .0))
 
--- src/part.rt:132:9
 returns-3 : tie.Need-returns-3
 returns-3 c = let s = c .before .before .before .before .before .before .before .before .before .before .before in up-shut _ _ _ _ _ (s .pre .0) (s .args .beyond) (s .pre .2) (top (c .before .before .before .before .before .before .before .before)) (omega (arith, level (c .before), c .if3 .taken))
 
--- src/part.rt:135:9
 returns-4 : tie.Need-returns-4
 returns-4 c = let s = c .before .before .before .before .before .before .before .before .before .before .before .before in up-open _ _ _ _ _ (s .pre .0) (s .args .beyond) (s .pre .2) (top (c .before .before .before .before .before .before .before .before .before)) (last (c .before .before .before .before)) (inner (c .before)) (c .if4 .taken)
 
--- src/part.rt:117:1
 returns-5 : tie.Need-returns-5
 returns-5 c = let s = c .before .before .before .before .before .before .before .before .before .before .before .before in up-closed _ _ _ _ _ (s .pre .0) (s .args .beyond) (s .pre .2) (top (c .before .before .before .before .before .before .before .before .before)) (last (c .before .before .before .before)) (inner (c .before)) (c .if4 .left)
 

@@ -1,22 +1,17 @@
+-- `mesh::part::on_axis` meets its contract.
 use borrow.Author.Needs.{needs}
-use Prim.Native.Nat.{ℕ}
 use mathlib.Core.Path.{_≡_, refl}
 use Rattle.mesh.specs.Part.{onAxis}
 use Rattle.mesh.proofs.Parts.{third}
 use Rattle.mesh.proofs.part.on_axis.Statement.{statement}
 use Rattle.mesh.proofs.part.on_axis.Tie as tie
-use Rattle.mesh.proofs.part.on_axis.Reads as reads
-use Rattle.mesh.proofs.part.on_axis.Lts as lts
 
--- src/part.rt:37:9
 returns : tie.Need-returns
 returns c = search needs
 
--- src/part.rt:40:9
 returns-2 : tie.Need-returns-2
 returns-2 c = search needs
 
--- src/part.rt:33:1
 returns-3 : tie.Need-returns-3
 returns-3 c = third (λ a. c .before .before .args .p .z ≡ onAxis a (c .before .before .args .p)) (λ b. refl) _ (c .before .if1 .left) (c .if2 .left)
 

@@ -1,33 +1,25 @@
-use borrow.Author.Needs.{needs}
+-- `mesh::part::place_in` meets its contract.
 use mathlib.Core.Path.{refl}
 use Rattle.stand.specs.Shape.{chunkPlace}
 use Rattle.stand.proofs.Formed.{corner-x, corner-y, corner-z, some-x, some-y}
 use Rattle.mesh.proofs.part.place_in.Statement.{statement}
 use Rattle.mesh.proofs.part.place_in.Tie as tie
-use Rattle.mesh.proofs.part.place_in.Reads as reads
-use Rattle.mesh.proofs.part.place_in.Lts as lts
 
--- src/part.rt:90:13
 rem-x : tie.Need-rem-x
 rem-x c = let s = c .before in some-x (s .args .k) (s .args .chunk) (s .pre)
 
--- src/part.rt:91:13
 div-y : tie.Need-div-y
 div-y c = let s = c .before .before in some-x (s .args .k) (s .args .chunk) (s .pre)
 
--- src/part.rt:91:13
 rem-y : tie.Need-rem-y
 rem-y c = let s = c .before .before .before in some-y (s .args .k) (s .args .chunk) (s .pre)
 
--- src/part.rt:92:13
 div-z : tie.Need-div-z
 div-z c = let s = c .before .before .before .before in some-x (s .args .k) (s .args .chunk) (s .pre)
 
--- src/part.rt:92:13
 div-z-2 : tie.Need-div-z-2
 div-z-2 c = let s = c .before .before .before .before .before in some-y (s .args .k) (s .args .chunk) (s .pre)
 
--- src/part.rt:86:1
 returns : tie.Need-returns
 unfolding chunkPlace
 returns c = let s = c .before .before .before .before .before in (refl, corner-x (s .args .k) (s .args .chunk), corner-y (s .args .k) (s .args .chunk), corner-z (s .args .k) (s .args .chunk))

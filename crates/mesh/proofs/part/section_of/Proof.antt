@@ -1,3 +1,4 @@
+-- `mesh::part::section_of` meets its contract.
 use borrow.Author.Needs.{needs}
 use native.Mathlib.Omega.{arith}
 use Prim.Native.Nat.{_<_}
@@ -6,70 +7,50 @@ use Rattle.stand.proofs.Formed.{counted-law}
 use Rattle.mesh.proofs.Step.{section-is}
 use Rattle.mesh.proofs.part.section_of.Statement.{statement}
 use Rattle.mesh.proofs.part.section_of.Tie as tie
-use Rattle.mesh.proofs.part.section_of.Reads as reads
-use Rattle.mesh.proofs.part.section_of.Lts as lts
-use Rattle.mesh.proofs.part.cut.Reads as cut-reads
-use Rattle.mesh.proofs.part.place_in.Reads as place-in-reads
-use Rattle.stand.proofs.volume.shape.counts.Reads as counts-reads
-use Rattle.stand.proofs.volume.shape.levels.Reads as levels-reads
 
 small : (c : tie.After-place-in) → c .before .before .before .before .before .before .before .args .chunk < maxChunks
 small c = let t = counted-law _ (c .before .before .before .before .before .before .before .pre .0) (c .before .counts2 .ensures .0) in omega (arith, t .total, t .three, c .before .before .before .before .before .before .before .pre .1)
 
--- src/part.rt:104:9
 levels-requires : tie.Need-levels-requires
 levels-requires c κs = search needs
 
--- src/part.rt:105:9
 counts-requires : tie.Need-counts-requires
 counts-requires c κs = search needs
 
--- src/part.rt:106:9
 counts-requires-2 : tie.Need-counts-requires-2
 counts-requires-2 c κs = search needs
 
--- src/part.rt:107:9
 place-in-requires : tie.Need-place-in-requires
 unfolding product
 place-in-requires c κs = let t = counted-law _ (c .before .before .before .before .before .before .pre .0) (c .counts2 .ensures .0) in omega (arith, t .total, c .before .before .before .before .before .before .pre .1)
 
--- src/part.rt:108:13
 mul-x : tie.Need-mul-x
 mul-x c = omega (arith, small (c .before), c .before .place-in .ensures .1)
 
--- src/part.rt:109:13
 mul-y : tie.Need-mul-y
 mul-y c = omega (arith, small (c .before .before), c .before .before .place-in .ensures .2)
 
--- src/part.rt:110:13
 mul-z : tie.Need-mul-z
 mul-z c = omega (arith, small (c .before .before .before), c .before .before .before .place-in .ensures .3)
 
--- src/part.rt:111:26
 add-t15 : tie.Need-add-t15
 add-t15 c = omega (arith, small (c .before .before .before .before), c .before .before .before .before .place-in .ensures .1, c .before .before .before .before .before .before .before .levels .ensures .1 .x)
 
--- src/part.rt:111:38
 add-t16 : tie.Need-add-t16
 add-t16 c = omega (arith, small (c .before .before .before .before .before), c .before .before .before .before .before .place-in .ensures .2, c .before .before .before .before .before .before .before .before .levels .ensures .1 .y)
 
--- src/part.rt:111:50
 add-t17 : tie.Need-add-t17
 add-t17 c = omega (arith, small (c .before .before .before .before .before .before), c .before .before .before .before .before .before .place-in .ensures .3, c .before .before .before .before .before .before .before .before .before .levels .ensures .1 .z)
 
--- src/part.rt:112:28
 cut-requires : tie.Need-cut-requires
 cut-requires c κs = search needs
 
--- src/part.rt:112:44
 cut-requires-2 : tie.Need-cut-requires-2
 cut-requires-2 c κs = search needs
 
--- src/part.rt:112:60
 cut-requires-3 : tie.Need-cut-requires-3
 cut-requires-3 c κs = search needs
 
--- src/part.rt:97:1
 returns : tie.Need-returns
 returns c = section-is _ _ (c .before .before .before .before .before .before .before .before .before .before .before .before .before .before .before .before .pre .0) (c .before .before .before .before .before .before .before .before .before .before .before .before .levels .ensures .0) (c .before .before .before .before .before .before .before .before .before .before .before .counts .ensures .0) (c .before .before .before .before .before .before .before .before .before .before .counts2 .ensures .0) (c .before .before .before .before .before .before .before .before .before .place-in .ensures .0) (c .before .before .cut .ensures) (c .before .cut2 .ensures) (c .cut3 .ensures)
 

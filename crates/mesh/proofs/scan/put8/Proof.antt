@@ -1,3 +1,4 @@
+-- `mesh::scan::put8` meets its contract.
 use lib.ListN.{length-set}
 use mir.Syntax.{w32}
 use mir.ValLaws.{toZ-ofZ}
@@ -7,103 +8,78 @@ use borrow.Author.Needs.{needs}
 use Rattle.mesh.proofs.scan.put8.Statement.{statement}
 use Rattle.mesh.proofs.scan.put8.Tie as tie
 
--- src/scan.rt:47:5
 mul-x : tie.Need-mul-x
 mul-x c = search needs
 
--- src/scan.rt:47:5
 slice-set-from-x : tie.Need-slice-set-from-x
 slice-set-from-x c = search needs
 
--- src/scan.rt:48:9
 add-y : tie.Need-add-y
 add-y c = search needs
 
--- src/scan.rt:48:5
 mul-y : tie.Need-mul-y
 mul-y c = search needs
 
--- src/scan.rt:48:5
 slice-set-from-y : tie.Need-slice-set-from-y
 slice-set-from-y c = simp length-set (omega arith)
 
--- src/scan.rt:49:9
 add-z : tie.Need-add-z
 add-z c = search needs
 
--- src/scan.rt:49:5
 mul-z : tie.Need-mul-z
 mul-z c = search needs
 
--- src/scan.rt:49:5
 slice-set-from-z : tie.Need-slice-set-from-z
 slice-set-from-z c = simp length-set (omega arith)
 
--- src/scan.rt:50:9
 add-side : tie.Need-add-side
 add-side c = search needs
 
--- src/scan.rt:50:5
 mul-side : tie.Need-mul-side
 mul-side c = search needs
 
--- src/scan.rt:50:5
 slice-set-from-side : tie.Need-slice-set-from-side
 slice-set-from-side c = simp length-set (omega arith)
 
--- src/scan.rt:51:9
 add-voxel : tie.Need-add-voxel
 add-voxel c = search needs
 
--- src/scan.rt:51:5
 mul-voxel : tie.Need-mul-voxel
 mul-voxel c = search needs
 
--- src/scan.rt:51:5
 slice-set-from-voxel : tie.Need-slice-set-from-voxel
 slice-set-from-voxel c = simp length-set (omega arith)
 
--- src/scan.rt:52:9
 add-ex : tie.Need-add-ex
 add-ex c = search needs
 
--- src/scan.rt:52:5
 mul-ex : tie.Need-mul-ex
 mul-ex c = search needs
 
--- src/scan.rt:52:5
 slice-set-from-ex : tie.Need-slice-set-from-ex
 slice-set-from-ex c = simp length-set (omega arith)
 
--- src/scan.rt:53:9
 add-ey : tie.Need-add-ey
 add-ey c = search needs
 
--- src/scan.rt:53:5
 mul-ey : tie.Need-mul-ey
 mul-ey c = search needs
 
--- src/scan.rt:53:5
 slice-set-from-ey : tie.Need-slice-set-from-ey
 slice-set-from-ey c = simp length-set (omega arith)
 
--- src/scan.rt:54:9
 add-ez : tie.Need-add-ez
 add-ez c = search needs
 
--- src/scan.rt:54:5
 mul-ez : tie.Need-mul-ez
 mul-ez c = search needs
 
--- src/scan.rt:54:5
 slice-set-from-ez : tie.Need-slice-set-from-ez
 slice-set-from-ez c = simp length-set (omega arith)
 
--- src/scan.rt:43:1
 same-length : tie.Need-same-length
 same-length c = simp length-set
 
--- src/scan.rt:43:1
 returns : tie.Need-returns
 returns c = simp (
   towards-suc,

@@ -1,3 +1,4 @@
+-- `mesh::scan::scan_mask` meets its contract.
 use mathlib.Core.Path.{_≡_, refl, subst, _∙_}
 use Prim.Native.Nat.{ℕ, _≤_, _-_}
 use native.Mathlib.Omega.{arith}
@@ -22,19 +23,16 @@ Inv-loop mask₀ f out₀ count n₀ v₀ mask out n v =
 abbrev μ-loop : tie.MeasureT-loop
 μ-loop mask₀ f out₀ count n₀ v₀ mask out n v = f .height - v
 
--- src/scan.rt:128:5
 loop-holds : tie.Need-loop-holds Inv-loop μ-loop
 unfolding rowsTo
 loop-holds c = (search needs, wrote-start _ _ _ _, refl, refl)
 
--- src/scan.rt:129:34
 mul-scan-row : tie.Need-mul-scan-row Inv-loop μ-loop
 mul-scan-row c =
     let s = c .before .before .before .before .before .before in
     let p = s .pre in
     omega (arith, p .whole, s .good .0 .0, row-fits (s .args .f .width) (s .args .f .height) (c .before .before .before .before .loop .v) (c .before .before .if1 .taken))
 
--- src/scan.rt:129:9
 scan-row-requires : tie.Need-scan-row-requires Inv-loop μ-loop
 scan-row-requires c κs =
     let s = c .before .before .before .before .before .before .before in
@@ -49,15 +47,12 @@ scan-row-requires c κs =
       few = omega (arith, p .few, p .whole, s .good .0 .1, l .inv .1 .total, rows-few (s .args .f .width) (s .args .f .height) (fresh (now (s .args .mask))) (l .v), row-fits (s .args .f .width) (s .args .f .height) (l .v) t);
     }
 
--- src/scan.rt:130:9
 add-v : tie.Need-add-v Inv-loop μ-loop
 add-v c = search needs
 
--- src/scan.rt:128:5
 loop-less : tie.Need-loop-less Inv-loop μ-loop
 loop-less c = search needs
 
--- src/scan.rt:128:5
 loop-again : tie.Need-loop-again Inv-loop μ-loop
 loop-again c =
     let s = c .before .before .before .before .before .before .before .before .before .before .before in
@@ -69,15 +64,12 @@ loop-again c =
       k .kept .1 .1 .1 .1 .0 ∙ l .inv .3,
     )
 
--- src/scan.rt:122:1
 same-length : tie.Need-same-length Inv-loop μ-loop
 same-length c = search needs
 
--- src/scan.rt:122:1
 same-length-2 : tie.Need-same-length-2 Inv-loop μ-loop
 same-length-2 c = search needs
 
--- src/scan.rt:122:1
 returns : tie.Need-returns Inv-loop μ-loop
 unfolding scan
 returns c =

@@ -1,3 +1,4 @@
+-- `mesh::scan::scan_row` meets its contract.
 use mathlib.Core.Path.{_≡_, refl, subst, _∙_}
 use Prim.Native.Nat.{ℕ, _≤_, _-_}
 use native.Mathlib.Omega.{arith}
@@ -22,19 +23,16 @@ Inv-loop mask₀ f v row out₀ count n₀ u₀ mask out n u =
 abbrev μ-loop : tie.MeasureT-loop
 μ-loop mask₀ f v row out₀ count n₀ u₀ mask out n u = f .width - u
 
--- src/scan.rt:113:5
 loop-holds : tie.Need-loop-holds Inv-loop μ-loop
 unfolding rowTo
 loop-holds c = (search needs, wrote-start _ _ _ _, refl, refl)
 
--- src/scan.rt:114:40
 add-step-at : tie.Need-add-step-at Inv-loop μ-loop
 add-step-at c =
     let s = c .before .before .before .before .before in
     let p = s .pre in
     omega (arith, p .whole, p .here, s .good .0 .0, c .before .if1 .taken, row-fits (s .args .f .width) (s .args .f .height) (s .args .v) (p .second))
 
--- src/scan.rt:114:13
 step-at-requires : tie.Need-step-at-requires Inv-loop μ-loop
 step-at-requires c κs =
     let s = c .before .before .before .before .before .before in
@@ -49,13 +47,11 @@ step-at-requires c κs =
       few = omega (arith, p .few, p .lies .width, l .inv .0, l .inv .1 .total, row-few (s .args .f .width) (s .args .f .height) (s .args .v) (fresh (now (s .args .mask))) (l .u));
     }
 
--- src/scan.rt:113:5
 loop-less : tie.Need-loop-less Inv-loop μ-loop
 loop-less c =
     let k = c .before .before .before .step-at .ensures in
     omega (arith, k .low, k .high)
 
--- src/scan.rt:113:5
 loop-again : tie.Need-loop-again Inv-loop μ-loop
 loop-again c =
     let s = c .before .before .before .before .before .before .before .before .before .before in
@@ -67,15 +63,12 @@ loop-again c =
       k .kept .1 .1 .1 .1 .1 .0 ∙ l .inv .3,
     )
 
--- src/scan.rt:107:1
 same-length : tie.Need-same-length Inv-loop μ-loop
 same-length c = search needs
 
--- src/scan.rt:107:1
 same-length-2 : tie.Need-same-length-2 Inv-loop μ-loop
 same-length-2 c = search needs
 
--- src/scan.rt:107:1
 returns : tie.Need-returns Inv-loop μ-loop
 returns c =
     let s = c .before .before .before .before in

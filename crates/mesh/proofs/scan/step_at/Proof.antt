@@ -1,3 +1,4 @@
+-- `mesh::scan::step_at` meets its contract.
 use mathlib.Core.Path.{_≡_, refl, sym, ap, _∙_}
 use Prim.Native.Nat.{ℕ, _<_}
 use native.Mathlib.Omega.{arith}
@@ -20,54 +21,43 @@ room {len} {f} {u} {v} p =
     let d = p .first in
     omega (arith, row-fits (f .width) (f .height) v (p .second))
 
--- src/scan.rt:90:13
 mul-x : tie.Need-mul-x
 mul-x c = omega (arith, room (c .before .pre))
 
--- src/scan.rt:90:13
 slice-read-x : tie.Need-slice-read-x
 slice-read-x c = room (c .before .before .pre)
 
--- src/scan.rt:92:29
 add-t18 : tie.Need-add-t18
 add-t18 c = search needs
 
--- src/scan.rt:92:9
 returns : tie.Need-returns
 returns c =
     let s = c .before .before .before in
     step-none (s .pre .first) _ _ _ (ap (λ (i : ℕ). getD (now (s .args .mask)) i 0) (sym (s .pre .here)) ∙ c .if1 .taken)
 
--- src/scan.rt:96:9
 claim-at-requires : tie.Need-claim-at-requires
 claim-at-requires c κs =
     let p = c .before .before .before .before .pre in
     record { whole = p .whole; first = p .first; second = p .second; here = p .here; holds = refl; seen = c .before .if1 .left }
 
--- src/scan.rt:99:5
 put-quad-requires : tie.Need-put-quad-requires
 put-quad-requires c κs =
     let s = c .before .before .before .before .before .before .before .before in
     let k = c .before .before .before .claim-at .ensures in
     record { lies = s .pre .lies; wide = k .wide; high = k .high; finish = c .before .before .before .before .before .before .before .slice-known .given (s .args .at) .fits }
 
--- src/scan.rt:101:15
 add-t14 : tie.Need-add-t14
 add-t14 c = search needs
 
--- src/scan.rt:102:16
 add-t24 : tie.Need-add-t24
 add-t24 c = search needs
 
--- src/scan.rt:86:1
 same-length : tie.Need-same-length
 same-length c = search needs
 
--- src/scan.rt:86:1
 same-length-2 : tie.Need-same-length-2
 same-length-2 c = search needs
 
--- src/scan.rt:86:1
 returns-2 : tie.Need-returns-2
 returns-2 c =
     let s = c .before .before .before .before .before .before .before .before .before .before in

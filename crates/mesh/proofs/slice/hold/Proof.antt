@@ -1,42 +1,30 @@
+-- `mesh::slice::hold` meets its contract.
 use Rattle.arith.proofs.Signed.{back}
-use mathlib.Core.Path.{_≡_, ap, _∙_}
-use lib.IntN.{ℤ, pos}
-use Rattle.arith.specs.Level.{levelOf, numberOf}
-use Prim.Native.Nat.{ℕ, _+_, min}
+use mathlib.Core.Path.{_∙_}
 use Rattle.mesh.specs.Slice.{heldExtent}
 use Rattle.mesh.proofs.Slicing.{number-held}
 use borrow.Author.Needs.{needs}
 use Rattle.mesh.proofs.slice.hold.Statement.{statement}
 use Rattle.mesh.proofs.slice.hold.Tie as tie
-use Rattle.mesh.proofs.slice.hold.Reads as reads
-use Rattle.mesh.proofs.slice.hold.Lts as lts
-use Rattle.arith.proofs.level.from_level.Reads as from-level-reads
 
--- src/slice.rt:62:24
 add-from-level : tie.Need-add-from-level
 add-from-level c = search needs
 
--- src/slice.rt:62:9
 from-level-requires : tie.Need-from-level-requires
 from-level-requires c κs = search needs
 
--- src/slice.rt:63:24
 add-from-level-2 : tie.Need-add-from-level-2
 add-from-level-2 c = search needs
 
--- src/slice.rt:63:9
 from-level-requires-2 : tie.Need-from-level-requires-2
 from-level-requires-2 c κs = search needs
 
--- src/slice.rt:64:24
 add-from-level-3 : tie.Need-add-from-level-3
 add-from-level-3 c = search needs
 
--- src/slice.rt:64:9
 from-level-requires-3 : tie.Need-from-level-requires-3
 from-level-requires-3 c κs = search needs
 
--- src/slice.rt:58:1
 returns : tie.Need-returns
 unfolding heldExtent
 returns c =

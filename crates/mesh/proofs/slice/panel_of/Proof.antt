@@ -1,47 +1,34 @@
-use mathlib.Core.Path.{_≡_, ap, _∙_, sym, subst}
+-- `mesh::slice::panel_of` meets its contract.
+use mathlib.Core.Path.{ap, _∙_, sym, subst}
 use Prim.Native.Nat.{ℕ, _^_}
 use native.Mathlib.Omega.{arith}
 use Rattle.stand.specs.Shape.{Below}
-use Rattle.stand.specs.Sides.{sideNumber}
-use Rattle.stand.specs.declared.volume.shape.Point.{Point}
 use Rattle.mesh.specs.Part.{facing}
 use Rattle.mesh.specs.Slice.{heldExtent, quadIn, shifted}
 use Rattle.mesh.proofs.Slicing.{facing-below}
 use borrow.Author.Needs.{needs}
 use Rattle.mesh.proofs.slice.panel_of.Statement.{statement}
 use Rattle.mesh.proofs.slice.panel_of.Tie as tie
-use Rattle.mesh.proofs.slice.panel_of.Reads as reads
-use Rattle.mesh.proofs.slice.panel_of.Lts as lts
-use Rattle.mesh.proofs.slice.hold.Reads as hold-reads
-use Rattle.mesh.proofs.slice.shift.Reads as shift-reads
-use Rattle.mesh.proofs.slice.turn.Reads as turn-reads
-use Rattle.stand.proofs.Face.number.Reads as number-reads
 
--- src/slice.rt:74:9
 number-requires : tie.Need-number-requires
 number-requires c κs = search needs
 
--- src/slice.rt:75:9
 turn-requires : tie.Need-turn-requires
 turn-requires c κs = c .number .ensures .1
 
--- src/slice.rt:76:9
 turn-requires-2 : tie.Need-turn-requires-2
 turn-requires-2 c κs = c .before .number .ensures .1
 
--- src/slice.rt:77:9
 shift-requires : tie.Need-shift-requires
 shift-requires c κs =
     let s = c .before .before .before .before in
     subst (Below (2 ^ 63)) (sym (c .before .turn .ensures)) (facing-below _ _ _ _ (omega arith) (s .pre .first) (s .pre .second))
 
--- src/slice.rt:78:9
 hold-requires : tie.Need-hold-requires
 hold-requires c κs =
     let s = c .before .before .before .before .before in
     subst (Below (2 ^ 63)) (sym (c .before .turn2 .ensures)) (facing-below _ _ _ _ (omega arith) (s .pre .wide) (s .pre .high))
 
--- src/slice.rt:68:1
 returns : tie.Need-returns
 unfolding quadIn
 returns c =

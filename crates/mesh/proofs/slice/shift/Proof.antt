@@ -1,3 +1,4 @@
+-- `mesh::slice::shift` meets its contract.
 use lib.Signed.{mag}
 use mir.Val.{toZ, ofZ}
 use Prim.Native.Nat.{_<_}
@@ -5,7 +6,7 @@ use Rattle.arith.proofs.Signed.{back}
 use mathlib.Core.Path.{_≡_, ap, _∙_}
 use lib.IntN.{ℤ, pos}
 use Rattle.arith.specs.Level.{levelOf, numberOf}
-use Prim.Native.Nat.{ℕ, _+_, min}
+use Prim.Native.Nat.{ℕ, _+_}
 use mir.Syntax.{w32}
 use mir.Val.{SFits}
 use Rattle.arith.specs.Saturate.{saturate}
@@ -14,49 +15,36 @@ use Rattle.stand.specs.declared.volume.shape.Point.{Point}
 use lib.IntN.{_+ℤ_}
 use Rattle.mesh.specs.Slice.{shifted}
 use Rattle.mesh.proofs.Slicing.{number-sat}
-
 use borrow.Author.Needs.{needs}
 use Rattle.mesh.proofs.slice.shift.Statement.{statement}
 use Rattle.mesh.proofs.slice.shift.Tie as tie
-use Rattle.mesh.proofs.slice.shift.Reads as reads
-use Rattle.mesh.proofs.slice.shift.Lts as lts
-use Rattle.arith.proofs.level.from_level.Reads as from-level-reads
-use Rattle.stand.proofs.volume.shape.levels.Reads as levels-reads
 
 -- one coordinate, from its level
 read : (r : ℤ) {l : ℕ} (o : ℤ) (d : ℕ) → SFits w32 o → l ≡ levelOf o → mag r < 2147483648 → r ≡ numberOf (l + d)
     → toZ w32 (ofZ w32 r) ≡ saturate (o +ℤ pos d)
 read r o d f e b h = back r b ∙ h ∙ ap (λ (l : ℕ). numberOf (l + d)) e ∙ number-sat o d f
 
--- src/slice.rt:51:9
 levels-requires : tie.Need-levels-requires
 levels-requires c κs = search needs
 
--- src/slice.rt:52:24
 add-from-level : tie.Need-add-from-level
 add-from-level c = search needs
 
--- src/slice.rt:52:9
 from-level-requires : tie.Need-from-level-requires
 from-level-requires c κs = search needs
 
--- src/slice.rt:53:24
 add-from-level-2 : tie.Need-add-from-level-2
 add-from-level-2 c = search needs
 
--- src/slice.rt:53:9
 from-level-requires-2 : tie.Need-from-level-requires-2
 from-level-requires-2 c κs = search needs
 
--- src/slice.rt:54:24
 add-from-level-3 : tie.Need-add-from-level-3
 add-from-level-3 c = search needs
 
--- src/slice.rt:54:9
 from-level-requires-3 : tie.Need-from-level-requires-3
 from-level-requires-3 c κs = search needs
 
--- src/slice.rt:47:1
 returns : tie.Need-returns
 unfolding shifted moved
 returns c =

@@ -1,3 +1,4 @@
+-- `mesh::slice::Slice::claim` meets its contract.
 use Prim.Native.Nat.{_*_, _≤_}
 use native.Mathlib.Nat.{div-le-self}
 use native.Mathlib.Omega.{arith}
@@ -8,65 +9,53 @@ use Rattle.mesh.proofs.Slicing.{claim-asks, claim-gives, none-left, non
 use borrow.Author.Needs.{needs}
 use Rattle.mesh.proofs.slice.Slice.claim.Statement.{statement}
 use Rattle.mesh.proofs.slice.Slice.claim.Tie as tie
-use Rattle.mesh.proofs.slice.Slice.claim.Reads as reads
-use Rattle.mesh.proofs.slice.Slice.claim.Lts as lts
-use Rattle.mesh.proofs.claim.claim_at.Reads as claim-at-reads
-use Rattle.mesh.proofs.claim.next_seen.Reads as next-seen-reads
-use Rattle.mesh.proofs.slice.panel_of.Reads as panel-of-reads
+
+abbrev start : tie.Else2 → tie.Start
+start c = c .before .before .before
 
 -- the slice's slots lie in the mask
-slots : (c : tie.Else2) → c .before .before .before .args .self .height * c .before .before .before .args .self .width ≤ length (now (c .before .before .before .args .mask))
-slots c = slots-fit (c .before .before .before .args .self) (now (c .before .before .before .args .mask)) 0 (c .before .if1 .left) (c .if2 .left)
+slots : (c : tie.Else2) → start c .args .self .height * start c .args .self .width ≤ length (now (start c .args .mask))
+slots c = slots-fit (start c .args .self) (now (start c .args .mask)) 0 (c .before .if1 .left) (c .if2 .left)
 
--- src/slice.rt:97:13
 returns : tie.Need-returns
 returns c = none-narrow _ _ _ (c .if1 .taken)
 
--- src/slice.rt:99:12
 div-if2 : tie.Need-div-if2
 div-if2 c = search needs
 
--- src/slice.rt:100:13
 returns-2 : tie.Need-returns-2
 returns-2 c = none-short _ _ _ (c .before .if1 .left) (c .if2 .taken)
 
--- src/slice.rt:102:17
 mul-n : tie.Need-mul-n
 mul-n c = omega (arith, slots c, c .before .before .before .good .1 .0 .0)
 
--- src/slice.rt:103:13
 next-seen-requires : tie.Need-next-seen-requires
 next-seen-requires c κs = slots (c .before)
 
--- src/slice.rt:105:13
 same-length : tie.Need-same-length
 same-length c = search needs
 
--- src/slice.rt:105:13
 returns-3 : tie.Need-returns-3
 returns-3 c = none-left _ _ _ (c .before .before .before .before .if1 .left) (c .before .before .before .if2 .left) (c .before .next-seen .ensures) (c .if3 .taken)
 
--- src/slice.rt:107:17
 mul-x : tie.Need-mul-x
 mul-x c = omega (arith, slots (c .before .before .before), c .if3 .left, c .before .before .before .before .before .before .good .1 .0 .1)
 
--- src/slice.rt:107:17
 slice-read-x : tie.Need-slice-read-x
 slice-read-x c = omega (arith, slots (c .before .before .before .before), c .before .if3 .left)
 
--- src/slice.rt:108:17
 rem-u : tie.Need-rem-u
 rem-u c = search needs
 
--- src/slice.rt:109:17
 div-v : tie.Need-div-v
 div-v c = search needs
 
--- src/slice.rt:110:13
 claim-at-requires : tie.Need-claim-at-requires
-claim-at-requires c κs = claim-asks (c .before .before .before .before .before .before .before .before .args .self) _ _ (c .before .before .before .before .before .before .if1 .left) (c .before .before .before .before .before .if2 .left) (c .before .before .before .next-seen .ensures) (c .before .before .if3 .left)
+claim-at-requires c κs =
+    let b = c .before .before in
+    let d = b .before .before .before in
+    claim-asks (start d .args .self) _ _ (d .before .if1 .left) (d .if2 .left) (b .before .next-seen .ensures) (b .if3 .left)
 
--- src/slice.rt:113:13
 panel-of-requires : tie.Need-panel-of-requires
 panel-of-requires c κs =
     let s = c .before .before .before .before .before .before .before .before .before .before .before in
@@ -84,17 +73,18 @@ panel-of-requires c κs =
       high = omega (arith, k .high, c .before .before .before .before .before .before .before .before .if2 .left, div-le-self (length (now (s .args .mask))) w);
     }
 
--- src/slice.rt:114:30
 add-t17 : tie.Need-add-t17
 add-t17 c = omega (arith, slots (c .before .before .before .before .before .before .before .before .before), c .before .before .before .before .before .before .if3 .left, c .before .before .before .before .before .before .before .before .before .before .before .before .good .1 .0 .0)
 
--- src/slice.rt:91:5
 same-length-2 : tie.Need-same-length-2
 same-length-2 c = search needs
 
--- src/slice.rt:91:5
 returns-4 : tie.Need-returns-4
-returns-4 c = claim-gives _ _ _ (c .before .before .before .before .before .before .before .before .before .before .if1 .left) (c .before .before .before .before .before .before .before .before .before .if2 .left) (c .before .before .before .before .before .before .before .next-seen .ensures) (c .before .before .before .before .before .before .if3 .left) (c .before .before .before .claim-at .ensures) (c .panel-of .ensures)
+returns-4 c =
+    let a = c .before .before .before in
+    let b = a .before .before .before in
+    let d = b .before .before .before in
+    claim-gives _ _ _ (d .before .if1 .left) (d .if2 .left) (b .before .next-seen .ensures) (b .if3 .left) (a .claim-at .ensures) (c .panel-of .ensures)
 
 pub claim-spec : {M : Type 1} → statement M
 claim-spec =
