@@ -56,7 +56,7 @@ laid-one {m} {m′} {to} {p} {q} l = record {
 
 -- ---- two fills, one below or beside the other
 
-row-below : (p v n : ℕ) → v < n → v * p + p ≤ n * p
+pub row-below : (p v n : ℕ) → v < n → v * p + p ≤ n * p
 row-below p v n l = omega (arith, suc-mul v p, mul-le-mul-right p l)
 
 order : (v n : ℕ) → (v < n) ⊎ (n ≤ v)
@@ -95,7 +95,7 @@ module _ {to pitch w n k : ℕ} {f : ℕ → ℕ → ℕ} where
             ⊎-elim (λ y. l .quiet (or-none r s z .0) u v a y) (λ y. ap (f u) (sym (y .0)) ∙ x .quiet (or-none r s z .1) u (v - n) a (y .1)) (part b);
       }
 
-apart : (to pitch n k u v u′ v′ : ℕ) → n + k ≤ pitch → u < n → u′ < k → to + v * pitch + u ≡ to + n + v′ * pitch + u′ → ⊥
+pub apart : (to pitch n k u v u′ v′ : ℕ) → n + k ≤ pitch → u < n → u′ < k → to + v * pitch + u ≡ to + n + v′ * pitch + u′ → ⊥
 apart to pitch n k u v u′ v′ s a b p =
     ⊎-elim
     (λ y. omega (arith, row-below pitch v v′ y))

@@ -1,13 +1,16 @@
 -- Laws of `mesh`.
 pub mod Agree
 pub mod Boxes
+pub mod Called
 pub mod Claims
 pub mod Facing
 pub mod Frame
 pub mod Laid
 pub mod Listed
 pub mod Locality
+pub mod Made
 pub mod Merged
+pub mod Meshing
 pub mod OneMore
 pub mod Owners
 pub mod Panels
@@ -19,4 +22,5 @@ pub mod Shown
 pub mod Slices
 pub mod Slicing
 pub mod Step
+pub mod Tiling
 pub mod Upto

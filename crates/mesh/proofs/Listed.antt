@@ -2,7 +2,7 @@
 use mathlib.Core.Path.{_≡_, refl, sym, ap, _∙_}
 use mathlib.Core.Bool.{Bool, true, false}
 use mathlib.Core.List.{List, [], _∷_, _++_, map}
-use Prim.Native.Nat.{ℕ, zero, suc, _+_, _*_, _/_, _%_, _≤_, _<_}
+use Prim.Native.Nat.{ℕ, suc, _+_, _*_, _/_, _%_, _≤_, _<_}
 use native.Mathlib.Nat.{add-zero}
 use native.Mathlib.Omega.{arith}
 use borrow.Author.Tests.{ltb-true, ltb-false}
@@ -19,10 +19,9 @@ use Rattle.mesh.specs.Panels.{slicePanels}
 use Rattle.mesh.specs.Part.{cellIn, heightOf, sliceMask, slotShown, widthOf}
 use Rattle.mesh.specs.Plane.{Filled}
 use Rattle.mesh.specs.Quad.{writeFrom}
-use Rattle.mesh.specs.Scan.{Rect, scan}
+use Rattle.mesh.specs.Scan.{scan}
 use Rattle.mesh.specs.Visible.{shown}
 use Rattle.mesh.specs.declared.Quad.{Quad}
-use Rattle.mesh.specs.declared.scan.Frame.{Frame}
 use Rattle.mesh.proofs.Agree.{scan-agree}
 use Rattle.mesh.proofs.Frame.{frame-panels, write-append}
 use Rattle.mesh.proofs.Laid.{inner, whole-at, whole-beyond}

@@ -17,6 +17,7 @@ use Rattle.stand.proofs.Sides.{six}
 use Rattle.stand.proofs.Slots.{spot-of-slot}
 use Rattle.mesh.specs.Part.{added, cellIn, depthOf, facing, heightOf, largestSide, onAxis, sectionPart, turned, wholePart, widthOf}
 use Rattle.mesh.specs.Step.{strideOn}
+use Rattle.mesh.specs.Tiles.{PartIn}
 
 -- ---- the axes of a side, in three arrangements
 
@@ -70,11 +71,6 @@ module _ (s : ℕ) (h : s < 6) where
         s h
 
 -- ---- parts inside a shape
-
-pub record PartIn (g : Shape) (r : Region) : Type 0 where
-  pub x : r .low .x + r .count .x ≤ g .size .x
-  pub y : r .low .y + r .count .y ≤ g .size .y
-  pub z : r .low .z + r .count .z ≤ g .size .z
 
 pub whole-in : (g : Shape) → PartIn g (wholePart g)
 unfolding wholePart

@@ -1,6 +1,7 @@
 -- The definitions that the contracts of `mesh` cite.
 pub mod Claims
 pub mod Cover
+pub mod Faces
 pub mod Frame
 pub mod Listed
 pub mod Merge

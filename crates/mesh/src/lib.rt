@@ -10,9 +10,11 @@ use stand::volume::answer::NumberAnswer;
 use stand::volume::shape::counts;
 
 mod claim;
+pub mod faces;
 mod part;
 mod plane;
 mod scan;
+mod sides;
 pub mod slice;
 mod tiles;
 

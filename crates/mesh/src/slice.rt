@@ -31,7 +31,7 @@ pub enum Claimed {
 }
 
 // Along the axes: k on the side's normal, u on its first axis, v on its second.
-fn turn(side: usize, k: u64, u: u64, v: u64) -> Point
+pub(crate) fn turn(side: usize, k: u64, u: u64, v: u64) -> Point
     requires { ⌜ side < 6 ⌝ }
     ensures { λ r. ⌜ r ≡ facing side k u v ⌝ }
 {
