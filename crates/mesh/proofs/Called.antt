@@ -97,11 +97,11 @@ module _ (g : Shape) (cells : List ℕ) (beyond : Bool) (r : Region) (m : List �
     mask-is : m′ ≡ wiped (largestSide r) m
     mask-is = o .mask ∙ c ∙ cleared-wiped w m h ∙ ap (λ (k : ℕ). wiped k m) e
 
-    pub part-short : {len : ℕ} → len ≡ length l → len / 8 < n → meshingOf (short n) m′ l′ ≡ partCall [] g cells beyond r m l
+    pub part-short : {len : ℕ} → len ≡ length l → len / 8 < n → meshingOf (short 11 n) m′ l′ ≡ partCall [] g cells beyond r m l
     unfolding partCall first meshed written
     part-short k t =
         rw (le-ltb (length m) (largestSide r) (omega (arith, e)), lt-leb (length (partPanels beyond g (look g cells) r)) (length l / 8) (omega (arith, count-is)))
-        (λ i. meshingOf (short (count-is i)) (mask-is i) (o .list i))
+        (λ i. meshingOf (short 11 (count-is i)) (mask-is i) (o .list i))
 
     pub part-listed : {len : ℕ} → len ≡ length l → n ≤ len / 8 → meshingOf (panels n) m′ l′ ≡ partCall [] g cells beyond r m l
     unfolding partCall first meshed written

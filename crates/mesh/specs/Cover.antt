@@ -1,4 +1,4 @@
--- The faces of a panel, and the visible faces of a part: document 01, 'Panels'.
+-- The faces of a panel, and the visible faces of a part: document 01, 'Panels' and 'The book behind the sums'.
 use Prim.Native.Nat.{ℕ, zero, suc, _+_, _*_}
 use mathlib.Core.Bool.{Bool, cond, _&&_}
 use mathlib.Core.List.{List, [], _∷_}

@@ -1,4 +1,4 @@
--- The calls that mesh: document 01, 'Panels' and refusals 3, 4, 7, 10 and 11.
+-- The calls that mesh: document 01, 'Panels', and 3, 4, 7, 10 and 11 of 'Calls turned back'.
 use Prim.Native.Nat.{ℕ, zero, suc, _*_, _/_}
 use mathlib.Core.Path.{_≡_}
 use mathlib.Core.Bool.{Bool, true, cond}
@@ -20,15 +20,15 @@ use Rattle.mesh.specs.declared.faces.FacesAnswer.{FacesAnswer}
 use Rattle.mesh.specs.declared.faces.FacesAnswer.the-variants as F
 use Rattle.mesh.specs.declared.tiles.Part.{Part}
 
--- what a meshing call answers: the panels written; refused; or refused by 11 with the panels needed
+-- what a meshing call answers: the panels written; refused by a number; or refused by one that adds the panels needed
 pub data Meshed : Type 0 where
   panels : ℕ → Meshed
   refused : ℕ → Meshed
-  short : ℕ → Meshed
+  short : ℕ → ℕ → Meshed
 
 abbrev pub facesAnswer : FacesAnswer → Meshed
 facesAnswer (F.Is n) = panels n
-facesAnswer (F.TooShort n) = short n
+facesAnswer (F.TooShort n) = short 11 n
 facesAnswer (F.Refused n) = refused n
 
 -- answer, mask and list after a call
@@ -40,13 +40,13 @@ pub record Meshing : Type 0 where
 abbrev pub meshingOf : Meshed → List ℕ → List ℤ → Meshing
 meshingOf a m l = record { answer = a; mask = m; list = l }
 
--- the first n slots 0
+-- 'Calls turned back': accepted or refused by 11, as many first slots as 10 wants are 0
 unfoldable pub wiped : ℕ → List ℕ → List ℕ
 wiped n m = replicate n 0 ++ drop n m
 
 unfoldable pub written : ℕ → List ℕ → List ℤ → List Quad → Meshing
 written want m l qs =
-    meshingOf (cond (leb (length qs) (length l / 8)) (panels (length qs)) (short (length qs))) (wiped want m) (writeFrom l 0 qs)
+    meshingOf (cond (leb (length qs) (length l / 8)) (panels (length qs)) (short 11 (length qs))) (wiped want m) (writeFrom l 0 qs)
 
 -- under a refusal's number, 0 for none
 unfoldable pub meshed : ℕ → ℕ → List ℕ → List ℤ → List Quad → Meshing

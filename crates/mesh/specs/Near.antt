@@ -13,7 +13,7 @@ gap a b = (a - b) + (b - a)
 unfoldable pub gaps : Point → Point → ℕ
 gaps p q = gap (p .x) (q .x) + gap (p .y) (q .y) + gap (p .z) (q .z)
 
--- of k sections along each axis, i and j: their places differ by 1 on one axis alone
+-- of k sections along each axis, sections i and j: their places differ by 1 on one axis alone
 unfoldable pub sharesFace : Point → ℕ → ℕ → Bool
 sharesFace k i j = eqb (gaps (chunkPlace k i) (chunkPlace k j)) 1
 

@@ -49,7 +49,7 @@ widthOf r s = onAxis (firstAt s) (r .count)
 unfoldable pub heightOf : Region → ℕ → ℕ
 heightOf r s = onAxis (secondAt s) (r .count)
 
--- the largest of the three products of two extents: what 10 wants
+-- the largest of the three products of two extents: what 10 of 'Calls turned back' wants
 unfoldable pub largestSide : Region → ℕ
 largestSide r =
     max (r .count .x * r .count .y) (max (r .count .x * r .count .z) (r .count .y * r .count .z))

@@ -13,10 +13,10 @@ use Rattle.stand.specs.Sides.{sideNumber}
 use Rattle.stand.specs.declared.volume.Extent.{Extent}
 use Rattle.mesh.specs.declared.Quad.{Quad}
 
--- all extents positive, and a product that i32 holds
 unfoldable pub positive : Extent → Bool
 positive e = leZ (pos 1) (e .x) && (leZ (pos 1) (e .y) && leZ (pos 1) (e .z))
 
+-- 'Calls turned back', 13: all extents positive, and a product that i32 holds
 unfoldable pub mergedCall : Extent → Answer ℕ
 mergedCall e = answer (first ((not (positive e && leb (product (countsOf e)) 2147483647) ⇒ 13) ∷ [])) (product (countsOf e))
 

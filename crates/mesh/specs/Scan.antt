@@ -1,4 +1,4 @@
--- Merging in the two directions of a slice, as the code goes: document 01, 'Panels'. `scan-same` of proofs/Scan says that it is `cutTo` of `Merge`.
+-- Merging in the two directions of a slice, as the code goes: document 01, 'Panels'. `scan-same` of proofs/Scanned says that it is `cutTo` of `Merge`.
 -- A mask of h rows of w slots has slot (u, v) at v * w + u.
 use mathlib.Core.Bool.{cond}
 use mathlib.Core.List.{List, [], _∷_, _++_}

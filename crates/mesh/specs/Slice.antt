@@ -1,4 +1,4 @@
--- Claiming panels one at a time from a mask of a slice.
+-- Panels claimed one at a time from the mask of a slice, in the order of document 01, 'Panels'.
 use Prim.Native.Nat.{ℕ, zero, suc, _+_, _-_, _*_, _/_, _%_, _<_, _^_, min}
 use mathlib.Core.Bool.{cond, _&&_}
 use mathlib.Core.List.{List, [], _∷_}

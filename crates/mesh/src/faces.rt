@@ -55,7 +55,7 @@ fn mesh_part(
     FacesAnswer::Is(made as u64)
 }
 
-// The panels of one section. Rules out panels of another section, panels that reach past it, and a mask or list left as it was before.
+// The panels of one section. Rules out panels of another section, and panels that reach past it.
 pub fn chunk_faces(
     cells: &[u16],
     v: Volume,
@@ -78,7 +78,7 @@ pub fn chunk_faces(
     mesh_part(mask, cells, v, p, outside, list)
 }
 
-// The panels of the whole stand, merged across sections. Rules out panels that end at a section's edge.
+// The panels of the whole stand, merged across sections. Rules out panels cut at a section's edge.
 pub fn faces(
     cells: &[u16],
     v: Volume,
