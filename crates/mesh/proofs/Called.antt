@@ -38,7 +38,7 @@ unfolding clearRun
 clear-next zero m l = refl
 clear-next (suc n) m l = rw zero-add (ap (λ (t : List ℕ). set t n 0) (clear-next n m (omega arith)) ∙ wipe-next n m l)
 
-cleared-wiped : (n : ℕ) (m : List ℕ) → n ≤ length m → clearRun m 0 n ≡ wiped n m
+pub cleared-wiped : (n : ℕ) (m : List ℕ) → n ≤ length m → clearRun m 0 n ≡ wiped n m
 unfolding wiped
 cleared-wiped = clear-next
 
@@ -135,7 +135,7 @@ module _ (v : Volume) (cells : List ℕ) {n : ℕ} (e : n ≡ first (listRules 4
     abbrev chunkRules : List Rule
     chunkRules = (leb (sections (shapeOf v)) i ⇒ 7) ∷ []
 
-    sections-are : n ≡ 0 → length cells / 4096 ≡ sections (shapeOf v)
+    pub sections-are : n ≡ 0 → length cells / 4096 ≡ sections (shapeOf v)
     sections-are z = let f = listed 4096 v (length cells) e z in omega (arith, f .length)
 
     rest : n ≡ 0 → first (listRules 4096 v (length cells) ++ chunkRules) ≡ first chunkRules

@@ -8,11 +8,10 @@ use native.Mathlib.Omega.{arith}
 use borrow.Author.Count.{below-more}
 use lib.ListN.{getD, set, length}
 use lib.Seq.{getD-set-other, set-set}
-use Rattle.mesh.specs.Scan.{State, runLen, rowsLen, clearRun, clearRect, place, slot, rectAt, clearOf, rowTo}
+use Rattle.mesh.specs.Scan.{runLen, rowsLen, clearRun, clearRect, place, slot, rectAt, clearOf}
 use Rattle.mesh.specs.Claims.{TakePre, TakePost, RowsPre, RowsPost, ClaimPre, ClaimPost, NextSeen}
 use Rattle.mesh.proofs.Upto.{row-fits}
 use Rattle.mesh.proofs.Runs.{run-is, run-alike, run-most, run-pass, run-stop, rows-is, rows-first, run-later, rect-later, clear-first, length-clearRun, length-clearRect}
-use Rattle.mesh.proofs.Scanned.{row-skips}
 
 -- ---- take_run: the slots from `at` on, of which the first is cleared before the loop
 
@@ -175,8 +174,3 @@ next-seen m from n r l e =
       passed = λ i lo hi. let b : from + (i - from) ≡ i = omega arith in rw b at (run-pass m from (n - from) 0 (i - from) (omega arith));
       seen = λ k z. run-stop m from (n - from) 0 (omega arith) (rw e at z);
     }
-
--- where the walk of a row jumps to the next slot that is not 0, it passes nothing
-pub row-seen : (w h v : ℕ) (s : State) (u k q : ℕ) → NextSeen (rowTo w h v s u .mask) (place w u v) (place w w v) q → q ≡ place w (u + k) v
-    → rowTo w h v s (u + k) ≡ rowTo w h v s u
-row-seen w h v s u k q n e = row-skips w h v s u k (λ i l. n .passed (place w (u + i) v) (omega arith) (omega arith))

@@ -213,7 +213,7 @@ module _ {f : Frame} {u v : ℕ} (lu : u < f .width) (m : List ℕ) (out : List 
 
 -- ---- the frame of a slice of a part
 
-from-level : (o : ℤ) (low d : ℕ) → SFits w32 o → levelOf o + low + d < 4294967296 → numberOf (levelOf o + low + d) ≡ o +ℤ pos (low + d)
+pub from-level : (o : ℤ) (low d : ℕ) → SFits w32 o → levelOf o + low + d < 4294967296 → numberOf (levelOf o + low + d) ≡ o +ℤ pos (low + d)
 from-level o low d f h = ap numberOf (add-assoc (levelOf o) low d) ∙ number-sum o (low + d) f (omega arith)
 
 pub map-each : {P : Rect → Type 0} (f g : Rect → Quad) → ((q : Rect) → P q → f q ≡ g q) → (qs : List Rect) → Each P qs → map f qs ≡ map g qs

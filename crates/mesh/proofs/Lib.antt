@@ -6,13 +6,14 @@ pub mod Claims
 pub mod Facing
 pub mod Frame
 pub mod Laid
+pub mod Laying
 pub mod Listed
 pub mod Locality
+pub mod Lying
 pub mod Made
 pub mod Merged
 pub mod Meshing
 pub mod OneMore
-pub mod Owners
 pub mod Panels
 pub mod Parts
 pub mod Runs

@@ -46,7 +46,7 @@ module _ {qs rs : List Quad} {m₀ m₁ m₂ : List ℕ} {out₀ out₁ out₂ :
 
 -- ---- one slice
 
-same-slots : (xs ys : List ℕ) → length xs ≡ length ys → ((q : ℕ) → getD xs q 0 ≡ getD ys q 0) → xs ≡ ys
+pub same-slots : (xs ys : List ℕ) → length xs ≡ length ys → ((q : ℕ) → getD xs q 0 ≡ getD ys q 0) → xs ≡ ys
 same-slots [] [] l e = refl
 same-slots [] (y ∷ ys) l e = absurd (omega (arith, l))
 same-slots (x ∷ xs) [] l e = absurd (omega (arith, l))

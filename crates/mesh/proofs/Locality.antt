@@ -5,7 +5,7 @@ use mathlib.Core.List.{List, _++_, map}
 use Prim.Native.Nat.{ℕ, zero, suc, _+_, _*_, _/_, _%_, _≤_, _<_}
 use native.Mathlib.Nat.{add-le-add, div-lt-iff-lt-mul, mod-lt, mul-zero, le-refl, le-trans}
 use native.Mathlib.Omega.{arith}
-use borrow.Author.Tests.{eq-eqb, eqb-false, eqb-true, leb-true, ltb-false, ltb-true, ne-eqb}
+use borrow.Author.Tests.{eq-eqb, leb-true, ltb-false, ltb-true}
 use lib.Dec.{eqb, ltb}
 use lib.IntN.{ℤ, pos, negsuc, _+ℤ_, _-ℤ_, natAbs, +ℤ-assoc, +ℤ-comm, +ℤ-idr, +ℤ-negℤ-cancel}
 use mir.Syntax.{w32}
@@ -111,21 +111,6 @@ moves-one s l = six (λ s. moves 0 s + moves 1 s + moves 2 s ≤ 1) (omega arith
 pub near-self : (k : Point) (i : ℕ) → near k i i ≡ true
 unfolding near
 near-self k i = rw (eq-eqb i i refl)
-
-pub near-sym : (k : Point) (i j : ℕ) → near k i j ≡ near k j i
-unfolding near sharesFace gaps
-near-sym k i j =
-    let p = chunkPlace k i in
-    let q = chunkPlace k j in
-    let e : gaps p q ≡ gaps q p = omega arith in
-    λ n. eqb-sym i j n || eqb (e n) 1
-  where
-    eqb-sym : (i j : ℕ) → eqb i j ≡ eqb j i
-    eqb-sym i j = go (eqb i j) refl
-      where
-        go : (b : Bool) → eqb i j ≡ b → b ≡ eqb j i
-        go true e = sym (eq-eqb j i (sym (eqb-true i j e)))
-        go false e = sym (ne-eqb j i (λ h. eqb-false i j e (sym h)))
 
 -- places that differ by 1 on one axis at most
 near-of : (k : Point) (i j : ℕ) → gaps (chunkPlace k i) (chunkPlace k j) ≤ 1 → near k i j ≡ true

@@ -16,7 +16,7 @@ use Rattle.mesh.specs.Step.{SectionIs}
 use Rattle.mesh.specs.Tiles.{PartIn, PartIs, partOf, tiled}
 use Rattle.mesh.specs.declared.part.Section.{Section}
 use Rattle.mesh.specs.declared.tiles.Part.{Part}
-use Rattle.mesh.proofs.Parts.{arranged, place-in, points, section-in, side-largest, whole-in}
+use Rattle.mesh.proofs.Parts.{place-in, points, section-in, side-largest, whole-in}
 use Rattle.mesh.proofs.Step.{added-on, counted-on, level-on, room-on}
 
 -- ---- bounds
@@ -58,7 +58,7 @@ module _ (g : Shape) (o : opens g ≡ true) where
     count-few a = omega (arith, in-on a, size-few a)
 
     module _ (ranged : Ranged (g .origin)) where
-      levels-on : (a : ℕ) → onAxis a (added (levelsOf (g .origin)) (r .low)) + onAxis a (r .count) ≤ 4294967296
+      pub levels-on : (a : ℕ) → onAxis a (added (levelsOf (g .origin)) (r .low)) + onAxis a (r .count) ≤ 4294967296
       levels-on a = omega (arith, added-on a (levelsOf (g .origin)) (r .low), level-on (g .origin) a, in-on a, room-on g o ranged a)
 
       pub region-lies : (s k : ℕ) → s < 6 → k < depthOf r s → Lies (frameOf g r s k)
@@ -75,27 +75,7 @@ module _ (g : Shape) (o : opens g ≡ true) where
 
 -- ---- a box of sections
 
-tile-in : (n p k : ℕ) → p + k ≤ chunksOn n → 1 ≤ min (k * 16) (n - p * 16) → p * 16 + min (k * 16) (n - p * 16) ≤ n
-unfolding chunksOn
-tile-in n p k h some = omega arith
-
 module _ (g : Shape) (p : Part) (i : PartIs g p) where
-  -- one with a cell lies inside the stand
-  pub part-in : 1 ≤ partOf g p .count .x → 1 ≤ partOf g p .count .y → 1 ≤ partOf g p .count .z → PartIn g (partOf g p)
-  unfolding tiled counted chunksIn
-  part-in x y z =
-      record {
-        x = tile-in (g .size .x) (p .place .x) (p .across .x) (i .x) x;
-        y = tile-in (g .size .y) (p .place .y) (p .across .y) (i .y) y;
-        z = tile-in (g .size .z) (p .place .z) (p .across .z) (i .z) z;
-      }
-
-  pub side-in : (s : ℕ) → s < 6 → 1 ≤ depthOf (partOf g p) s → 1 ≤ widthOf (partOf g p) s → 1 ≤ heightOf (partOf g p) s → PartIn g (partOf g p)
-  unfolding depthOf widthOf heightOf
-  side-in =
-      arranged (λ n f t. 1 ≤ onAxis n (partOf g p .count) → 1 ≤ onAxis f (partOf g p .count) → 1 ≤ onAxis t (partOf g p .count) → PartIn g (partOf g p))
-      (λ a b c. part-in a b c) (λ a b c. part-in b a c) (λ a b c. part-in b c a)
-
   tiled-most : (a : ℕ) → onAxis a (partOf g p .count) ≤ onAxis a (counted g) * 16
   unfolding tiled
   tiled-most zero = omega (arith, i .x)
@@ -113,11 +93,6 @@ module _ (g : Shape) (p : Part) (i : PartIs g p) where
       where
         scaled-product : (a b d : ℕ) → a * 16 * (b * 16) * (d * 16) ≡ a * b * d * 4096
         scaled-product a b d = simp (mul-assoc, mul-comm, mul-left-comm) (omega arith)
-
-    -- with no slots it may lie past the stand
-    pub part-lies : Ranged (g .origin) → (s k : ℕ) → s < 6 → k < depthOf (partOf g p) s → 1 ≤ widthOf (partOf g p) s → 1 ≤ heightOf (partOf g p) s
-        → Lies (frameOf g (partOf g p) s k)
-    part-lies ranged s k hs hk w h = region-lies g o (partOf g p) (side-in s hs (omega (arith, hk)) w h) ranged s k hs hk
 
     -- each of its counts, and so the code's products
     pub part-below : Below (16 * maxChunks + 1) (p .count)

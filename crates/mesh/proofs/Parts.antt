@@ -2,19 +2,17 @@
 use mathlib.Core.Path.{_≡_, refl, sym, ap, _∙_}
 use mathlib.Core.Bool.{true, cond}
 use Prim.Native.Nat.{ℕ, zero, suc, _+_, _-_, _*_, _/_, _%_, _≤_, _<_, min, max}
-use native.Mathlib.Nat.{div-add-mod', div-lt-iff-lt-mul, mod-lt, mul-assoc, mul-comm, mul-le-mul}
+use native.Mathlib.Nat.{div-add-mod', div-lt-iff-lt-mul, mod-lt, mul-assoc, mul-comm}
 use native.Mathlib.Omega.{arith}
 use lib.Arith.{digits-div, digits-mod}
 use lib.Dec.{eqb}
-use Rattle.stand.specs.Shape.{Below, Shape, cellFrom, chunkOf, chunkPlace, chunksIn, chunksOn, corner, counted, distance, inside, opens, over, pointOf, product, rest, sectionAt, sections, slot, slotAt, spotAt, withinAt}
+use Rattle.stand.specs.Shape.{Below, Shape, chunkPlace, chunksIn, chunksOn, corner, counted, distance, inside, over, pointOf, product, rest, sectionAt, sections, slot, slotAt, withinAt}
 use Rattle.stand.specs.Sides.{firstAt, normalAt, secondAt}
-use Rattle.stand.specs.declared.Cell.{Cell}
 use Rattle.stand.specs.declared.volume.shape.Point.{Point}
 use Rattle.stand.specs.declared.volume.shape.Region.{Region}
 use Rattle.stand.proofs.Formed.{some-x, some-y}
-use Rattle.stand.proofs.Shape.{Within, distance-from, from-distance, inside-from, inside-within, slot-at-chunk, slot-chunk, slot-from, stored}
+use Rattle.stand.proofs.Shape.{Within, distance-from, inside-from, slot-from}
 use Rattle.stand.proofs.Sides.{six}
-use Rattle.stand.proofs.Slots.{spot-of-slot}
 use Rattle.mesh.specs.Part.{added, cellIn, depthOf, facing, heightOf, largestSide, onAxis, sectionPart, turned, wholePart, widthOf}
 use Rattle.mesh.specs.Step.{strideOn}
 use Rattle.mesh.specs.Tiles.{PartIn}
@@ -177,14 +175,6 @@ module _ (g : Shape) (i : ℕ) (h : i < sections g) where
   pub section-below : Below 17 (sectionPart g i .count)
   section-below = record { x = omega (arith, section-on 0 .most); y = omega (arith, section-on 1 .most); z = omega (arith, section-on 2 .most) }
 
-  pub section-largest : largestSide (sectionPart g i) ≤ 256
-  unfolding largestSide
-  section-largest =
-      let x = section-on 0 .most in
-      let y = section-on 1 .most in
-      let z = section-on 2 .most in
-      omega (arith, mul-le-mul x y, mul-le-mul x z, mul-le-mul y z)
-
 -- ---- where cells are stored
 
 -- the lowest cell of the section at a place
@@ -235,68 +225,3 @@ module _ (g : Shape) (i s k u v : ℕ) (h : i < sections g) (hs : s < 6) (hk : k
       slot-from g (added (sectionPart g i .low) (facing s k u v))
       ∙ slot-in (counted g) (chunkPlace (counted g) i) (facing s k u v) facing-within
       ∙ ap (λ (n : ℕ). n * 4096 + withinAt (facing s k u v)) (section-place (counted g) i)
-
-  pub section-chunk : chunkOf g (cellIn g (sectionPart g i) s k u v) ≡ i
-  section-chunk =
-      sym (slot-chunk g (cellIn g (sectionPart g i) s k u v)) ∙ ap (λ (n : ℕ). n / 4096) section-slot ∙ digits-div i (within-lt (facing s k u v) facing-within)
-
--- ---- every cell inside is in a part, at one place of each side's slices
-
-pub record Found (g : Shape) (r : Region) (s : ℕ) (c : Cell) : Type 0 where
-  pub k : ℕ
-  pub u : ℕ
-  pub v : ℕ
-  pub deep : k < depthOf r s
-  pub wide : u < widthOf r s
-  pub high : v < heightOf r s
-  pub is : cellIn g r s k u v ≡ c
-
-within-on : {p w : Point} → Within p w → (a : ℕ) → onAxis a w < onAxis a p
-within-on h zero = h .x
-within-on h (suc zero) = h .y
-within-on h (suc (suc a)) = h .z
-
-module _ (g : Shape) (s : ℕ) (c : Cell) (hs : s < 6) (h : inside g c ≡ true) where
-  -- by what is left of the cell's distances in the part
-  found-by : (r : Region) (w : Point) → added (r .low) w ≡ distance g c → Within (r .count) w → Found g r s c
-  unfolding depthOf widthOf heightOf cellIn
-  found-by r w e l =
-      record {
-        k = onAxis (normalAt s) w;
-        u = onAxis (firstAt s) w;
-        v = onAxis (secondAt s) w;
-        deep = within-on l (normalAt s);
-        wide = within-on l (firstAt s);
-        high = within-on l (secondAt s);
-        is = ap (λ (p : Point). cellFrom g (added (r .low) p)) (facing-of s hs w) ∙ ap (cellFrom g) e ∙ from-distance g c h;
-      }
-
-  pub found-whole : Found g (wholePart g) s c
-  unfolding wholePart added
-  found-whole = found-by (wholePart g) (distance g c) (points (omega arith) (omega arith) (omega arith)) (inside-within g c h)
-
-  module _ (o : opens g ≡ true) where
-    corner-rest : added (corner (counted g) (chunkOf g c)) (rest (distance g c)) ≡ distance g c
-    unfolding added rest chunkOf spotAt corner
-    corner-rest =
-        let e = spot-of-slot (counted g) (distance g c) (stored g (distance g c) o (inside-within g c h)) in
-        let p = ap (chunkPlace (counted g)) (slot-at-chunk (counted g) (distance g c)) in
-        points
-        (on _ _ (omega arith) (λ i. e i .x) (λ i. p i .x)) (on _ _ (omega arith) (λ i. e i .y) (λ i. p i .y)) (on _ _ (omega arith) (λ i. e i .z) (λ i. p i .z))
-      where
-        on : (a b : ℕ) {r d : ℕ} → r < 16 → a * 16 + r ≡ d → a ≡ b → b * 16 + d % 16 ≡ d
-        on a b l p q = omega arith
-
-    rest-below : Within (sectionPart g (chunkOf g c) .count) (rest (distance g c))
-    unfolding sectionPart added rest
-    rest-below =
-        let w = inside-within g c h in
-        record {
-          x = omega (arith, w .x, ap (λ (p : Point). p .x) corner-rest);
-          y = omega (arith, w .y, ap (λ (p : Point). p .y) corner-rest);
-          z = omega (arith, w .z, ap (λ (p : Point). p .z) corner-rest);
-        }
-
-    pub found-section : Found g (sectionPart g (chunkOf g c)) s c
-    unfolding sectionPart
-    found-section = found-by (sectionPart g (chunkOf g c)) (rest (distance g c)) corner-rest rest-below

@@ -3,12 +3,11 @@ use mathlib.Core.Path.{_≡_, refl, sym, ap, _∙_}
 use mathlib.Core.Bool.{Bool, true, false, cond}
 use mathlib.Core.List.{List, [], _∷_, _++_, map, map-append}
 use Prim.Native.Nat.{ℕ, zero, suc, _+_, _*_, _-_, _/_, _%_, _≤_, _<_}
-use native.Mathlib.Nat.{add-zero, zero-add, add-suc, zero-mul, suc-mul, mul-one, mul-add-mod-self-right, mul-add-div-right, mod-eq-of-lt, div-eq-of-lt, div-one, le-refl}
-use native.Mathlib.Numerals.{add-one}
+use native.Mathlib.Nat.{add-zero, add-suc, zero-mul, suc-mul, mul-one, mul-add-mod-self-right, mul-add-div-right, mod-eq-of-lt, div-eq-of-lt, div-one, le-refl}
 use native.Mathlib.Omega.{arith}
 use borrow.Author.Tests.{eqb-false, eq-eqb, ne-eqb}
 use lib.Dec.{eqb}
-use lib.ListN.{getD, length, length-append, length-map}
+use lib.ListN.{getD, length, length-append}
 use Rattle.mesh.specs.Merge.{Dir, Box, Cuts, full, all, grow, rep, clearBox, alike, boxAt, cut, cutTo, total, limits}
 use Rattle.mesh.specs.Scan.{Rect, State, fresh, place, slot, runLen, rowsLen, clearRun, clearRect, rectAt, clearOf, stepAt, rowTo, rowsTo, scan}
 use Rattle.mesh.proofs.Boxes.{clear-in}
@@ -112,9 +111,6 @@ module _ (w h : ℕ) (m : List ℕ) where
   pub scan-length : length (scan w h m .mask) ≡ length m
   scan-length = scan-parted .same-length
 
-  pub scan-few : length (scan w h m .rects) ≤ h * w
-  scan-few = omega (arith, length-map (scan w h m .rects) (asBox w), scan-parted .few, scan-parted .room)
-
 -- ---- what one slot adds
 
 abbrev pub claimed : ℕ → ℕ → State → ℕ → ℕ → State
@@ -214,11 +210,6 @@ row-skips w h v s u (suc k) z =
 
 pub row-skip : (w h v : ℕ) (s : State) (u : ℕ) → slot w (rowTo w h v s u .mask) u v ≡ 0 → rowTo w h v s (u + 1) ≡ rowTo w h v s u
 row-skip w h v s u z = row-skips w h v s u 1 (λ i l. let e : u + i ≡ u = omega arith in rw e z)
-
--- and so does a whole row of them
-pub rows-skip : (w h : ℕ) (s : State) (v : ℕ) → ((i : ℕ) → i < w → slot w (rowsTo w h s v .mask) i v ≡ 0) → rowsTo w h s (v + 1) ≡ rowsTo w h s v
-unfolding rowsTo rowTo
-rows-skip w h s v z = rw add-one (ap (rowTo w h v (rowsTo w h s v)) (sym (zero-add w)) ∙ row-skips w h v (rowsTo w h s v) 0 w (λ i l. rw (zero-add i) (z i l)))
 
 -- the first row of a rectangle is 0 once it is cleared
 clear-here : (w : ℕ) (m : List ℕ) (r : Rect) (i : ℕ) → i < r .run → 0 < r .rows → getD (clearOf w m r) (place w (r .u) (r .v) + i) 0 ≡ 0

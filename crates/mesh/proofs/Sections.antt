@@ -109,12 +109,6 @@ whole-part g c h =
       cell = sym (from-distance g c h) ∙ ap (cellFrom g) (λ j. pointOf (sym (zero-add (d .x)) j) (sym (zero-add (d .y)) j) (sym (zero-add (d .z)) j));
     }
 
-pub whole-inside : (g : Shape) (c : Cell) → InPart g (wholePart g) c → inside g c ≡ true
-unfolding wholePart added
-whole-inside g c p =
-    let d = p .at in
-    ap (inside g) (p .cell ∙ ap (cellFrom g) (λ j. pointOf (zero-add (d .x) j) (zero-add (d .y) j) (zero-add (d .z) j))) ∙ inside-from g d (p .within)
-
 -- ---- the panels of the sections
 
 module _ (beyond : Bool) (g : Shape) (look : Cell → ℕ) where

@@ -3,6 +3,7 @@ pub mod Claims
 pub mod Cover
 pub mod Faces
 pub mod Frame
+pub mod Lay
 pub mod Listed
 pub mod Merge
 pub mod Near

@@ -22,7 +22,7 @@ pub enum FacesAnswer {
     Refused(u32),
 }
 
-fn is_empty_beyond(b: Beyond) -> bool
+pub(crate) fn is_empty_beyond(b: Beyond) -> bool
     ensures { λ r. ⌜ r ≡ emptyBeyond b ⌝ }
 {
     match b {

@@ -11,6 +11,7 @@ use stand::volume::shape::counts;
 
 mod claim;
 pub mod faces;
+pub mod lay;
 mod part;
 mod plane;
 mod scan;
