@@ -23,12 +23,13 @@ use Rattle.stand.specs.declared.volume.shape.Region.{Region}
 use Rattle.stand.proofs.Levels.{from-law, last-law}
 use Rattle.stand.proofs.Shape.{Within, from-distance, goods, inside-on, inside-within}
 use Rattle.stand.proofs.Sides.{six}
+use Rattle.stand.proofs.Slots.{section-place}
 use Rattle.mesh.specs.Near.{gap, gaps, near, sharesFace}
 use Rattle.mesh.specs.Panels.{boxesOf, panelsTo, partPanels, quadOf, sidePanels, slicePanels}
 use Rattle.mesh.specs.Part.{cellIn, depthOf, heightOf, sectionPart, sliceMask, slotShown, widthOf}
 use Rattle.mesh.specs.Visible.{ahead, clears, shown}
 use Rattle.mesh.proofs.Panels.{InSlice, slice-part}
-use Rattle.mesh.proofs.Sections.{chunk-place, part-chunk, section-place}
+use Rattle.mesh.proofs.Sections.{chunk-place, part-chunk}
 use Rattle.mesh.proofs.Slices.{table-same}
 
 -- ---- one step along an axis, n cells from o on

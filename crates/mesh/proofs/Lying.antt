@@ -72,10 +72,6 @@ module _ {g : Shape} {p : Part} (part : SomePart g p) where
 
   -- ---- by the code's number s of side f
 
-  pub depth-is : (s : ℕ) {d : ℕ} {axes : Axes} → axes ≡ axesAt s → d ≡ onAxis (axes .normal) (p .count) → d ≡ depthOf (partOf g p) s
-  unfolding axesAt depthOf
-  depth-is s e h = h ∙ (λ j. onAxis (e j .normal) (part .part .count j))
-
   module _ (f : Face) {k : ℕ} where
     module _ {s : ℕ} {d : Point} (n : (s ≡ sideNumber f) × (s < 6)) (deep : k < depthOf (partOf g p) (sideNumber f)) (e : d ≡ facing s k 0 0) where
       side-in : sideNumber f < 6

@@ -5,7 +5,8 @@ use Prim.Native.Nat.{ℕ, zero, suc, _+_, _-_, _*_, _≤_, _<_, min, max}
 use native.Mathlib.Nat.{le-refl, mul-le-mul, mul-assoc, mul-comm, mul-left-comm}
 use native.Mathlib.Omega.{arith}
 use Rattle.stand.specs.Shape.{Below, Ranged, Shape, chunkPlace, chunksIn, chunksOn, corner, counted, countsOf, levelsOf, maxChunks, opens, pointOf, product, sections, shapeOf, wellFormed}
-use Rattle.stand.specs.Sides.{firstAt, normalAt, secondAt}
+use Rattle.stand.specs.Sides.{axesAt, firstAt, normalAt, secondAt}
+use Rattle.stand.specs.declared.Axes.{Axes}
 use Rattle.stand.specs.declared.volume.Volume.{Volume}
 use Rattle.stand.specs.declared.volume.shape.Point.{Point}
 use Rattle.stand.specs.declared.volume.shape.Region.{Region}
@@ -74,6 +75,12 @@ module _ (g : Shape) (o : opens g ≡ true) where
           }
 
 -- ---- a box of sections
+
+-- the depth, as the code reads it
+pub depth-made : {g : Shape} {p : Part} (s : ℕ) {d : ℕ} {axes : Axes} → PartIs g p → axes ≡ axesAt s → d ≡ onAxis (axes .normal) (p .count)
+    → d ≡ depthOf (partOf g p) s
+unfolding axesAt depthOf
+depth-made s i e d = d ∙ (λ j. onAxis (e j .normal) (i .count j))
 
 module _ (g : Shape) (p : Part) (i : PartIs g p) where
   tiled-most : (a : ℕ) → onAxis a (partOf g p .count) ≤ onAxis a (counted g) * 16

@@ -109,10 +109,6 @@ module _ (beyond : Bool) (g : Shape) (look : Cell → ℕ) (r : Region) where
 -- ---- one side
 
 module _ {g : Shape} {cells m : List ℕ} {p : Part} {s : ℕ} (i : SideIn g cells m p s) where
-  pub depth-made : {d : ℕ} {axes : Axes} → axes ≡ axesAt s → d ≡ onAxis (axes .normal) (p .count) → d ≡ depthOf (partOf g p) s
-  unfolding axesAt depthOf
-  depth-made e d = d ∙ (λ j. onAxis (e j .normal) (i .part .count j))
-
   pub side-still : {m′ : List ℕ} → m′ ≡ m → SideIn g cells m′ p s
   side-still e = subst (λ (m : List ℕ). SideIn g cells m p s) (sym e) i
 

@@ -1,18 +1,19 @@
 -- A part along a side's axes: its extents, its cells, and where a section's cells are stored.
-use mathlib.Core.Path.{_≡_, refl, sym, ap, _∙_}
+use mathlib.Core.Path.{_≡_, refl, ap, _∙_}
 use mathlib.Core.Bool.{true, cond}
-use Prim.Native.Nat.{ℕ, zero, suc, _+_, _-_, _*_, _/_, _%_, _≤_, _<_, min, max}
-use native.Mathlib.Nat.{div-add-mod', div-lt-iff-lt-mul, mod-lt, mul-assoc, mul-comm}
+use Prim.Native.Nat.{ℕ, zero, suc, _+_, _-_, _*_, _/_, _≤_, _<_, min, max}
+use native.Mathlib.Nat.{div-lt-iff-lt-mul, mod-lt, mul-assoc, mul-comm}
 use native.Mathlib.Omega.{arith}
 use lib.Arith.{digits-div, digits-mod}
 use lib.Dec.{eqb}
-use Rattle.stand.specs.Shape.{Below, Shape, chunkPlace, chunksIn, chunksOn, corner, counted, distance, inside, over, pointOf, product, rest, sectionAt, sections, slot, slotAt, withinAt}
+use Rattle.stand.specs.Shape.{Below, Shape, chunkPlace, chunksIn, chunksOn, corner, counted, inside, over, pointOf, product, rest, sectionAt, sections, slot, slotAt, withinAt}
 use Rattle.stand.specs.Sides.{firstAt, normalAt, secondAt}
 use Rattle.stand.specs.declared.volume.shape.Point.{Point}
 use Rattle.stand.specs.declared.volume.shape.Region.{Region}
 use Rattle.stand.proofs.Formed.{some-x, some-y}
-use Rattle.stand.proofs.Shape.{Within, distance-from, inside-from, slot-from}
+use Rattle.stand.proofs.Shape.{Within, inside-from, slot-from}
 use Rattle.stand.proofs.Sides.{six}
+use Rattle.stand.proofs.Slots.{section-place}
 use Rattle.mesh.specs.Part.{added, cellIn, depthOf, facing, heightOf, largestSide, onAxis, sectionPart, turned, wholePart, widthOf}
 use Rattle.mesh.specs.Step.{strideOn}
 use Rattle.mesh.specs.Tiles.{PartIn}
@@ -39,44 +40,21 @@ facingOf n f k u v = pointOf (along 0 n f k u v) (along 1 n f k u v) (along 2 n 
 pub points : {a b c x y z : ℕ} → a ≡ x → b ≡ y → c ≡ z → pointOf a b c ≡ pointOf x y z
 points p q r = λ i. pointOf (p i) (q i) (r i)
 
-module _ (s : ℕ) (h : s < 6) where
-  -- the numbers of a point, and the point of three numbers
-  pub facing-of : (p : Point) → facing s (onAxis (normalAt s) p) (onAxis (firstAt s) p) (onAxis (secondAt s) p) ≡ p
-  unfolding facing turned
-  facing-of p = arranged (λ n f t. facingOf n f (onAxis n p) (onAxis f p) (onAxis t p) ≡ p) refl refl refl s h
-
-  module _ (k u v : ℕ) where
-    pub on-normal : onAxis (normalAt s) (facing s k u v) ≡ k
-    unfolding facing turned
-    on-normal = arranged (λ n f t. onAxis n (facingOf n f k u v) ≡ k) refl refl refl s h
-
-    pub on-first : onAxis (firstAt s) (facing s k u v) ≡ u
-    unfolding facing turned
-    on-first = arranged (λ n f t. onAxis f (facingOf n f k u v) ≡ u) refl refl refl s h
-
-    pub on-second : onAxis (secondAt s) (facing s k u v) ≡ v
-    unfolding facing turned
-    on-second = arranged (λ n f t. onAxis t (facingOf n f k u v) ≡ v) refl refl refl s h
-
-    -- numbers below those of a point
-    pub facing-below : (p : Point) → k < onAxis (normalAt s) p → u < onAxis (firstAt s) p → v < onAxis (secondAt s) p → Within p (facing s k u v)
-    unfolding facing turned
-    facing-below p =
-        arranged (λ n f t. k < onAxis n p → u < onAxis f p → v < onAxis t p → Within p (facingOf n f k u v))
-        (λ a b c. record { x = a; y = b; z = c })
-        (λ a b c. record { x = b; y = a; z = c })
-        (λ a b c. record { x = b; y = c; z = a })
-        s h
+-- numbers below those of a point
+pub facing-below : (s : ℕ) → s < 6 → (k u v : ℕ) (p : Point) → k < onAxis (normalAt s) p → u < onAxis (firstAt s) p → v < onAxis (secondAt s) p → Within p (facing s k u v)
+unfolding facing turned
+facing-below s h k u v p =
+    arranged (λ n f t. k < onAxis n p → u < onAxis f p → v < onAxis t p → Within p (facingOf n f k u v))
+    (λ a b c. record { x = a; y = b; z = c })
+    (λ a b c. record { x = b; y = a; z = c })
+    (λ a b c. record { x = b; y = c; z = a })
+    s h
 
 -- ---- parts inside a shape
 
 pub whole-in : (g : Shape) → PartIn g (wholePart g)
 unfolding wholePart
 whole-in g = record { x = omega arith; y = omega arith; z = omega arith }
-
-pub cell-distance : (g : Shape) (r : Region) (s k u v : ℕ) → distance g (cellIn g r s k u v) ≡ added (r .low) (facing s k u v)
-unfolding cellIn
-cell-distance g r s k u v = distance-from g (added (r .low) (facing s k u v))
 
 -- a cell of a slice of a part
 module _ (g : Shape) (r : Region) (s k u v : ℕ) (p : PartIn g r) (h : s < 6) (hk : k < depthOf r s) (hu : u < widthOf r s) (hv : v < heightOf r s) where
@@ -93,25 +71,6 @@ module _ (g : Shape) (r : Region) (s k u v : ℕ) (p : PartIn g r) (h : s < 6) (
   pub cell-inside : inside g (cellIn g r s k u v) ≡ true
   unfolding cellIn
   cell-inside = inside-from g (added (r .low) (facing s k u v)) cell-within
-
-added-same : (p q w : Point) → added p q ≡ added p w → q ≡ w
-unfolding added
-added-same p q w e =
-    points
-    (less (p .x) (q .x) (w .x) (λ i. e i .x)) (less (p .y) (q .y) (w .y) (λ i. e i .y)) (less (p .z) (q .z) (w .z) (λ i. e i .z))
-  where
-    less : (a b c : ℕ) → a + b ≡ a + c → b ≡ c
-    less a b c e = omega arith
-
--- a cell is at one place of a part's slices
-pub cell-same : (g : Shape) (r : Region) (s k u v l a b : ℕ) → s < 6 → cellIn g r s k u v ≡ cellIn g r s l a b → (k ≡ l) × (u ≡ a) × (v ≡ b)
-cell-same g r s k u v l a b h e =
-    let d = sym (cell-distance g r s k u v) ∙ ap (distance g) e ∙ cell-distance g r s l a b in
-    let f = added-same (r .low) (facing s k u v) (facing s l a b) d in (
-      sym (on-normal s h k u v) ∙ ap (onAxis (normalAt s)) f ∙ on-normal s h l a b,
-      sym (on-first s h k u v) ∙ ap (onAxis (firstAt s)) f ∙ on-first s h l a b,
-      sym (on-second s h k u v) ∙ ap (onAxis (secondAt s)) f ∙ on-second s h l a b,
-    )
 
 -- ---- the largest side
 
@@ -186,10 +145,6 @@ unfolding slotAt over rest added
 slot-in k p w h =
     λ i. sectionAt k (pointOf (digits-div (p .x) (h .x) i) (digits-div (p .y) (h .y) i) (digits-div (p .z) (h .z) i)) * 4096
     + withinAt (pointOf (digits-mod (p .x) (h .x) i) (digits-mod (p .y) (h .y) i) (digits-mod (p .z) (h .z) i))
-
-pub section-place : (k : Point) (i : ℕ) → sectionAt k (chunkPlace k i) ≡ i
-unfolding chunkPlace sectionAt
-section-place k i = ap (λ (n : ℕ). n * k .x + i % k .x) (div-add-mod' (i / k .x) (k .y)) ∙ div-add-mod' i (k .x)
 
 pub within-lt : (w : Point) → Below 16 w → withinAt w < 4096
 unfolding withinAt

@@ -3,9 +3,8 @@ use mathlib.Core.Path.{_≡_, refl, sym, ap, _∙_}
 use mathlib.Core.Bool.{Bool, true}
 use mathlib.Core.List.{List}
 use Prim.Native.Nat.{ℕ, zero, suc, _+_, _-_, _*_, _/_, _%_, _≤_, _<_, min}
-use native.Mathlib.Nat.{div-add-mod', mul-le-mul, zero-add}
+use native.Mathlib.Nat.{mul-le-mul, zero-add}
 use native.Mathlib.Omega.{arith}
-use lib.Arith.{digits-div, digits-mod}
 use lib.ListN.{length}
 use Rattle.stand.specs.Shape.{Shape, cellFrom, chunkOf, chunkPlace, corner, counted, distance, inside, opens, over, pointOf, product, rest, sectionAt, sections}
 use Rattle.stand.specs.declared.Cell.{Cell}
@@ -17,23 +16,9 @@ use Rattle.mesh.specs.Panels.{faceOf, partPanels}
 use Rattle.mesh.specs.Part.{added, sectionPart, wholePart}
 use Rattle.mesh.specs.Visible.{shown}
 use Rattle.mesh.specs.declared.Quad.{Quad}
+use Rattle.stand.proofs.Slots.{place-section, section-place}
 use Rattle.mesh.proofs.Panels.{InPart, part-count, part-few, part-most, part-only, part-sum}
 use Rattle.mesh.proofs.Slices.{sum-only}
-
--- ---- a section's place, and back
-
-pub place-section : (k p : Point) → p .x < k .x → p .y < k .y → chunkPlace k (sectionAt k p) ≡ p
-unfolding chunkPlace sectionAt
-place-section k p hx hy =
-    let e : ((p .z * k .y + p .y) * k .x + p .x) / k .x ≡ p .z * k .y + p .y = digits-div (p .z * k .y + p .y) hx in
-    λ i. pointOf
-    (digits-mod (p .z * k .y + p .y) hx i)
-    ((ap (λ (n : ℕ). n % k .y) e ∙ digits-mod (p .z) hy) i)
-    ((ap (λ (n : ℕ). n / k .y) e ∙ digits-div (p .z) hy) i)
-
-pub section-place : (k : Point) (j : ℕ) → sectionAt k (chunkPlace k j) ≡ j
-unfolding chunkPlace sectionAt
-section-place k j = ap (λ (n : ℕ). n * k .x + j % k .x) (div-add-mod' (j / k .x) (k .y)) ∙ div-add-mod' j (k .x)
 
 -- the place of an inside cell's section
 pub chunk-place : (g : Shape) (c : Cell) → opens g ≡ true → inside g c ≡ true → chunkPlace (counted g) (chunkOf g c) ≡ over (distance g c)

@@ -22,12 +22,13 @@ use Rattle.stand.specs.declared.volume.Volume.{Volume}
 use Rattle.stand.specs.declared.volume.shape.Point.{Point}
 use Rattle.stand.proofs.Levels.{from-law, last-law}
 use Rattle.stand.proofs.Shape.{Within, formed-counts, goods, inside-from, sections-few, slot-from, slot-lt}
+use Rattle.stand.proofs.Slots.{section-place}
 use Rattle.mesh.specs.Part.{added, cellIn, depthOf, facing, heightOf, onAxis, sectionPart, turned, widthOf}
 use Rattle.mesh.specs.Step.{EachSlot, Follows, SectionIs, SliceOf, hopOn, onward}
 use Rattle.mesh.specs.Visible.{ahead}
 use Rattle.mesh.specs.declared.part.Next.the-variants as N
 use Rattle.mesh.specs.declared.part.Section.{Section}
-use Rattle.mesh.proofs.Parts.{Cut, Extents, arranged, cell-within, facing-sixteen, facingOf, place-in, points, scaled, section-extents, section-in, section-inside, section-on, section-place, section-slot, slot-in}
+use Rattle.mesh.proofs.Parts.{Cut, Extents, arranged, cell-within, facing-sixteen, facingOf, place-in, points, scaled, section-extents, section-in, section-inside, section-on, section-slot, slot-in}
 
 -- ---- along one axis, n cells from o on
 

@@ -15,6 +15,7 @@ use Rattle.stand.specs.declared.Axes.{Axes}
 use Rattle.stand.specs.declared.Cell.{Cell}
 use Rattle.stand.specs.declared.volume.shape.Point.{Point}
 use Rattle.stand.proofs.Shape.{Within, sections-few}
+use Rattle.stand.proofs.Slots.{place-section}
 use Rattle.mesh.specs.Part.{added, cellIn, depthOf, facing, heightOf, onAxis, sectionPart, turned, widthOf}
 use Rattle.mesh.specs.Plane.{Filled, Laid}
 use Rattle.mesh.specs.Step.{SectionIs, SliceIn, sliceShown}
@@ -22,10 +23,9 @@ use Rattle.mesh.specs.Tiles.{BandIn, PartIs, SideIn, TileIn, bandShown, 
 use Rattle.mesh.specs.Visible.{shown}
 use Rattle.mesh.specs.declared.part.Section.{Section}
 use Rattle.mesh.specs.declared.tiles.Part.{Part}
-use Rattle.mesh.proofs.Facing.{turned-so}
+use Rattle.mesh.proofs.Facing.{facing-along, turned-so}
 use Rattle.mesh.proofs.Laid.{apart, filled-as, filled-below, filled-beside, row-below}
-use Rattle.mesh.proofs.Parts.{facing-below, on-first, on-normal, on-second, points, section-on}
-use Rattle.mesh.proofs.Sections.{place-section}
+use Rattle.mesh.proofs.Parts.{facing-below, points, section-on}
 use Rattle.mesh.proofs.Step.{added-on, room-on}
 
 -- ---- the index of a section by its place
@@ -132,15 +132,15 @@ module _ (g : Shape) (p : Part) (s : ℕ) (q : PartIs g p) (hs : s < 6) where
 
       pub tile-deep : depthOf (sectionPart g j) s ≡ min 16 (depthOf (partOf g p) s - d * 16)
       unfolding depthOf
-      tile-deep = tile-on (normalAt s) d (on-normal s hs d a b) hd
+      tile-deep = tile-on (normalAt s) d (facing-along s hs d a b .normal) hd
 
       pub tile-wide : widthOf (sectionPart g j) s ≡ min 16 (widthOf (partOf g p) s - a * 16)
       unfolding widthOf
-      tile-wide = tile-on (firstAt s) a (on-first s hs d a b) ha
+      tile-wide = tile-on (firstAt s) a (facing-along s hs d a b .first) ha
 
       pub tile-high : heightOf (sectionPart g j) s ≡ min 16 (heightOf (partOf g p) s - b * 16)
       unfolding heightOf
-      tile-high = tile-on (secondAt s) b (on-second s hs d a b) hb
+      tile-high = tile-on (secondAt s) b (facing-along s hs d a b .second) hb
 
       -- its cells are cells of the part
       pub tile-cell : (k : ℕ) → d ≡ k / 16 → (u v : ℕ) → cellIn g (sectionPart g j) s (k % 16) u v ≡ cellIn g (partOf g p) s k (a * 16 + u) (b * 16 + v)

@@ -78,7 +78,7 @@ pub fn chunk_faces(
     mesh_part(mask, cells, v, p, outside, list)
 }
 
-// The panels of the whole stand, merged across sections. Rules out panels cut at a section's edge.
+// The panels of the whole stand, merged across sections. Rules out panels cut at a section's edge, and faces between two sections that both have a block there.
 pub fn faces(
     cells: &[u16],
     v: Volume,

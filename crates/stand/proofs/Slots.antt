@@ -19,7 +19,7 @@ use Rattle.stand.proofs.Shape.{from-distance, inside-within, slot-at-ch
 -- ---- by numbers
 
 -- a section's place, and back
-place-section : (k p : Point) → p .x < k .x → p .y < k .y → chunkPlace k (sectionAt k p) ≡ p
+pub place-section : (k p : Point) → p .x < k .x → p .y < k .y → chunkPlace k (sectionAt k p) ≡ p
 unfolding chunkPlace sectionAt
 place-section k p hx hy =
     let e : ((p .z * k .y + p .y) * k .x + p .x) / k .x ≡ p .z * k .y + p .y = digits-div (p .z * k .y + p .y) hx in
@@ -28,7 +28,7 @@ place-section k p hx hy =
     ((ap (λ (n : ℕ). n % k .y) e ∙ digits-mod (p .z) hy) i)
     ((ap (λ (n : ℕ). n / k .y) e ∙ digits-div (p .z) hy) i)
 
-section-place : (k : Point) (j : ℕ) → sectionAt k (chunkPlace k j) ≡ j
+pub section-place : (k : Point) (j : ℕ) → sectionAt k (chunkPlace k j) ≡ j
 unfolding chunkPlace sectionAt
 section-place k j = ap (λ (n : ℕ). n * k .x + j % k .x) (div-add-mod' (j / k .x) (k .y)) ∙ div-add-mod' j (k .x)
 

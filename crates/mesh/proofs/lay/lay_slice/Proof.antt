@@ -6,7 +6,8 @@ use Rattle.stand.specs.Shape.{shapeOf}
 use Rattle.stand.specs.Sides.{axesAt}
 use Rattle.mesh.specs.Tiles.{partOf}
 use Rattle.mesh.proofs.Laying.{lays, lays-none}
-use Rattle.mesh.proofs.Meshing.{depth-made, side-of}
+use Rattle.mesh.proofs.Made.{depth-made}
+use Rattle.mesh.proofs.Meshing.{side-of}
 use Rattle.mesh.proofs.lay.lay_slice.Statement.{statement}
 use Rattle.mesh.proofs.lay.lay_slice.Tie as tie
 
@@ -27,7 +28,7 @@ returns c =
     let k = c .before .before .before .before .number .ensures in
     let x = c .before .before .before .axes .ensures ∙ ap axesAt (sym (k .0)) in
     let i = side-of (s .pre .1) refl (k .1) in
-    let d = depth-made i x (c .before .on-axis .ensures) in
+    let d = depth-made (c .before .before .before .before .number .result) (i .part) x (c .before .on-axis .ensures) in
     lays-none (a .beyond) g _ (partOf g (a .p)) (k .0) (omega (arith, d, c .if1 .taken))
 
 fill-part-requires : tie.Need-fill-part-requires
@@ -38,7 +39,7 @@ fill-part-requires c κs =
     let k = c .before .before .before .before .before .number .ensures in
     let x = c .before .before .before .before .axes .ensures ∙ ap axesAt (sym (k .0)) in
     let i = side-of (s .pre .1) refl (k .1) in
-    let d = depth-made i x (c .before .before .on-axis .ensures) in
+    let d = depth-made (c .before .before .before .before .before .number .result) (i .part) x (c .before .before .on-axis .ensures) in
     (i, x, omega (arith, d, c .before .if1 .left), s .pre .0)
 
 same-length : tie.Need-same-length
@@ -52,7 +53,7 @@ returns-2 c =
     let k = c .before .before .before .before .before .before .before .before .number .ensures in
     let x = c .before .before .before .before .before .before .before .axes .ensures ∙ ap axesAt (sym (k .0)) in
     let i = side-of (s .pre .1) refl (k .1) in
-    let d = depth-made i x (c .before .before .before .before .before .on-axis .ensures) in
+    let d = depth-made (c .before .before .before .before .before .before .before .before .number .result) (i .part) x (c .before .before .before .before .before .on-axis .ensures) in
     lays (a .beyond) g _ (partOf g (a .p)) (k .0) (omega (arith, d, c .before .before .before .before .if1 .left)) (i .room) (c .before .before .fill-part .ensures)
 
 pub lay-slice-spec : {M : Type 1} → statement M

@@ -11,7 +11,8 @@ use Rattle.mesh.specs.Panels.{sidePanels}
 use Rattle.mesh.specs.Part.{depthOf}
 use Rattle.mesh.specs.Tiles.{partOf}
 use Rattle.mesh.proofs.Listed.{listed-none}
-use Rattle.mesh.proofs.Meshing.{depth-made, side-more, side-room, side-still}
+use Rattle.mesh.proofs.Made.{depth-made}
+use Rattle.mesh.proofs.Meshing.{side-more, side-room, side-still}
 use Rattle.mesh.proofs.sides.mesh_side.Statement.{statement}
 use Rattle.mesh.proofs.sides.mesh_side.Tie as tie
 
@@ -36,7 +37,7 @@ mesh-slice-requires c κs =
     let s = c .before .before .before .before .before .before .before .before in
     let i = s .pre .1 in
     let l = c .before .before .before .loop .inv in
-    let d = depth-made i (s .pre .2) (c .before .before .before .before .on-axis .ensures) in
+    let d = depth-made (s .args .side) (i .part) (s .pre .2) (c .before .before .before .before .on-axis .ensures) in
     (s .pre .0, side-still i (l .1 .mask), s .pre .2, omega (arith, d, c .before .before .loop-test .taken), side-room i (s .args .beyond) (c .before .before .before .loop .slice) (omega (arith, d, l .0)) (s .pre .3) (l .1 .total))
 
 add-slice : tie.Need-add-slice Inv-loop μ-loop
@@ -62,7 +63,7 @@ returns : tie.Need-returns Inv-loop μ-loop
 returns c =
     let s = c .before .before .before .before .before .before in
     let l = c .before .loop in
-    let d = depth-made (s .pre .1) (s .pre .2) (c .before .before .on-axis .ensures) in
+    let d = depth-made (s .args .side) (s .pre .1 .part) (s .pre .2) (c .before .before .on-axis .ensures) in
     let e : l .slice ≡ depthOf (partOf (shapeOf (s .args .v)) (s .args .p)) (s .args .side) = omega (arith, d, l .inv .0, c .loop-test .left) in
     rw e at (l .inv .1)
 
