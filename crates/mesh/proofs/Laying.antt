@@ -35,13 +35,13 @@ use Rattle.mesh.proofs.Slices.{getD-table, length-table}
 
 -- ---- a list over the first slots
 
-over-beyond : (xs m : List ℕ) (q : ℕ) → length xs ≤ q → length xs ≤ length m → getD (xs ++ drop (length xs) m) q 0 ≡ getD m q 0
+pub over-beyond : (xs m : List ℕ) (q : ℕ) → length xs ≤ q → length xs ≤ length m → getD (xs ++ drop (length xs) m) q 0 ≡ getD m q 0
 over-beyond [] m q l h = refl
 over-beyond (x ∷ xs) [] q l h = absurd (omega arith)
 over-beyond (x ∷ xs) (y ∷ m) zero l h = absurd (omega arith)
 over-beyond (x ∷ xs) (y ∷ m) (suc q) l h = over-beyond xs m q (omega arith) (omega arith)
 
-over-length : (xs m : List ℕ) → length xs ≤ length m → length (xs ++ drop (length xs) m) ≡ length m
+pub over-length : (xs m : List ℕ) → length xs ≤ length m → length (xs ++ drop (length xs) m) ≡ length m
 over-length [] m h = refl
 over-length (x ∷ xs) [] h = absurd (omega arith)
 over-length (x ∷ xs) (y ∷ m) h = ap suc (over-length xs m (omega arith))

@@ -5,6 +5,7 @@ pub mod Called
 pub mod Claims
 pub mod Facing
 pub mod Frame
+pub mod Gathered
 pub mod Laid
 pub mod Laying
 pub mod Listed

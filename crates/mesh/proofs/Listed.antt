@@ -61,6 +61,29 @@ same-mask n xs ys l a b c = same-slots xs ys l (λ q. at q (ltb q n) refl)
     at q true e = a q (ltb-true q n e) ∙ sym (b q (ltb-true q n e))
     at q false e = c q (ltb-false q n e)
 
+-- a scan clears its own slots alone
+pub scan-wiped : (w h : ℕ) (m₁ m : List ℕ) → length m₁ ≡ length m → ((q : ℕ) → q < h * w → getD m q 0 ≡ 0) → ((q : ℕ) → h * w ≤ q → getD m₁ q 0 ≡ getD m q 0)
+    → scan w h m₁ .mask ≡ m
+scan-wiped w h m₁ m l clear rest =
+    same-mask (h * w) (scan w h m₁ .mask) m (scan-length w h m₁ ∙ l) (scan-cleared w h m₁) clear (λ q lq. scan-beyond w h m₁ q lq ∙ rest q lq)
+
+-- a mask whose slots show a slice is scanned as the slice's own
+module _ (beyond : Bool) (g : Shape) (look : Cell → ℕ) (r : Region) (s k : ℕ) (m₁ : List ℕ)
+    (at-slot : (q : ℕ) → q < heightOf r s * widthOf r s → getD m₁ q 0 ≡ slotShown beyond g look r s k q)
+    (ranged : Ranged (g .origin)) (lies : Lies (frameOf g r s k))
+  where
+    same-rects : scan (widthOf r s) (heightOf r s) m₁ .rects ≡ scan (widthOf r s) (heightOf r s) (sliceMask beyond g look r s k) .rects
+    unfolding sliceMask
+    same-rects =
+        scan-agree (widthOf r s) (heightOf r s) m₁ (sliceMask beyond g look r s k)
+        (λ q lq. at-slot q lq ∙ sym (getD-table (slotShown beyond g look r s k) (heightOf r s * widthOf r s) q lq))
+
+    pub same-panels : map (quadFrom (frameOf g r s k)) (scan (widthOf r s) (heightOf r s) m₁ .rects) ≡ slicePanels beyond g look r s k
+    unfolding slicePanels
+    same-panels =
+        ap (map (quadFrom (frameOf g r s k))) same-rects
+        ∙ frame-panels g r s k ranged lies (sliceMask beyond g look r s k)
+
 none-listed : (qs : List Quad) → length qs ≤ 0 → qs ≡ []
 none-listed [] l = refl
 none-listed (q ∷ qs) l = absurd (omega arith)
@@ -98,27 +121,14 @@ module _ (beyond : Bool) (g : Shape) (look : Cell → ℕ) (r : Region) (s k : �
           rw (no-panels, e) listed-none
 
     module _ (ranged : Ranged (g .origin)) (lies : Lies (frameOf g r s k)) where
-      same-rects : scan (widthOf r s) (heightOf r s) m₁ .rects ≡ scan (widthOf r s) (heightOf r s) (sliceMask beyond g look r s k) .rects
-      unfolding sliceMask
-      same-rects =
-          scan-agree (widthOf r s) (heightOf r s) m₁ (sliceMask beyond g look r s k)
-          (λ q lq. at-slot q lq ∙ sym (getD-table (slotShown beyond g look r s k) (heightOf r s * widthOf r s) q lq))
-
-      same-panels : map (quadFrom (frameOf g r s k)) (scan (widthOf r s) (heightOf r s) m₁ .rects) ≡ slicePanels beyond g look r s k
-      unfolding slicePanels
-      same-panels =
-          ap (map (quadFrom (frameOf g r s k))) same-rects
-          ∙ frame-panels g r s k ranged lies (sliceMask beyond g look r s k)
-
       pub slice-listed : {m₂ : List ℕ} {out out′ : List ℤ} {n c : ℕ} → Wrote (frameOf g r s k) (scan (widthOf r s) (heightOf r s) m₁) m₂ out out′ n c → Listed (slicePanels beyond g look r s k) m m₂ out out′ n c
       slice-listed {out = out} {n = n} o =
           let w = widthOf r s in
           let h = heightOf r s in
           let e = o .mask in
+          let same = same-panels beyond g look r s k m₁ at-slot ranged lies in
           record {
-            mask =
-                e ∙ same-mask (h * w) (scan w h m₁ .mask) m (scan-length w h m₁ ∙ fill .mask .same) (scan-cleared w h m₁) clear
-                (λ q lq. scan-beyond w h m₁ q lq ∙ whole-beyond (fill .mask) q lq);
-            list = o .list ∙ ap (writeFrom out n) same-panels;
-            total = o .total ∙ ap (λ (x : ℕ). n + x) (sym (length-map (scan w h m₁ .rects) (quadFrom (frameOf g r s k))) ∙ ap length same-panels);
+            mask = e ∙ scan-wiped w h m₁ m (fill .mask .same) clear (whole-beyond (fill .mask));
+            list = o .list ∙ ap (writeFrom out n) same;
+            total = o .total ∙ ap (λ (x : ℕ). n + x) (sym (length-map (scan w h m₁ .rects) (quadFrom (frameOf g r s k))) ∙ ap length same);
           }

@@ -14,8 +14,10 @@ use Rattle.stand.specs.declared.Face.{Face}
 use Rattle.stand.specs.declared.volume.Volume.{Volume}
 use Rattle.stand.specs.declared.volume.shape.Region.{Region}
 use Rattle.mesh.specs.Faces.{wiped}
+use Rattle.mesh.specs.Panels.{slicePanels}
 use Rattle.mesh.specs.Part.{cellIn, depthOf, heightOf, largestSide, sectionPart, sliceMask, widthOf}
 use Rattle.mesh.specs.Tiles.{PartIn, PartIs, partOf}
+use Rattle.mesh.specs.declared.Quad.{Quad}
 use Rattle.mesh.specs.declared.lay.SliceAnswer.{SliceAnswer}
 use Rattle.mesh.specs.declared.lay.SliceAnswer.the-variants as A
 use Rattle.mesh.specs.declared.slice.Slice.{Slice}
@@ -36,6 +38,9 @@ module _ (beyond : Bool) (g : Shape) (look : Cell → ℕ) (r : Region) (s k : �
   -- past the depth nothing is visible
   unfoldable pub laidMask : List ℕ → List ℕ
   laidMask m = cond (ltb k (depthOf r s)) (over (sliceMask beyond g look r s k) m) m
+
+  unfoldable pub laidPanels : List Quad
+  laidPanels = cond (ltb k (depthOf r s)) (slicePanels beyond g look r s k) []
 
 pub record Sliced : Type 0 where
   pub answer : Answer Slice
