@@ -21,8 +21,8 @@ use Rattle.mesh.proofs.Frame.{from-level}
 use Rattle.mesh.proofs.Made.{levels-on}
 use Rattle.mesh.proofs.Parts.{cell-below}
 
-abbrev pub sliceFrom : Cell → Face → ℕ → ℕ → Slice
-sliceFrom c f w h = record { cell = c; face = f; width = w; height = h }
+abbrev pub sliceAt : Cell → Face → ℕ → ℕ → Slice
+sliceAt c f w h = record { cell = c; face = f; width = w; height = h }
 
 -- the cell d up from levels l
 abbrev pub cellUp : Point → Point → Cell
@@ -88,15 +88,15 @@ module _ {g : Shape} {p : Part} (part : SomePart g p) where
       lowest-cell = (λ i. cellUp (part .part .low i) (steps i)) ∙ lowest-at (sideNumber f) k side-in deep
 
     module _ {c : Cell} where
-      pub slice-past : depthOf (partOf g p) (sideNumber f) ≤ k → c ≡ cellIn g (partOf g p) (sideNumber f) 0 0 0 → sliceFrom c f 0 0 ≡ sliceOf g (partOf g p) f k
+      pub slice-past : depthOf (partOf g p) (sideNumber f) ≤ k → c ≡ cellIn g (partOf g p) (sideNumber f) 0 0 0 → sliceAt c f 0 0 ≡ sliceOf g (partOf g p) f k
       unfolding sliceOf
-      slice-past l e = rw (le-ltb k (depthOf (partOf g p) (sideNumber f)) l) (λ i. sliceFrom (e i) f 0 0)
+      slice-past l e = rw (le-ltb k (depthOf (partOf g p) (sideNumber f)) l) (λ i. sliceAt (e i) f 0 0)
 
       pub slice-made : {w h : ℕ} {axes : Axes} → axes ≡ axesAt (sideNumber f) → k < depthOf (partOf g p) (sideNumber f)
           → c ≡ cellIn g (partOf g p) (sideNumber f) k 0 0 → w ≡ onAxis (axes .first) (p .count) → h ≡ onAxis (axes .second) (p .count)
-          → sliceFrom c f w h ≡ sliceOf g (partOf g p) f k
+          → sliceAt c f w h ≡ sliceOf g (partOf g p) f k
       unfolding sliceOf axesAt widthOf heightOf
       slice-made a l e pw ph =
           let count = part .part .count in
           rw (lt-ltb k (depthOf (partOf g p) (sideNumber f)) l)
-          (λ i. sliceFrom (e i) f ((pw ∙ (λ j. onAxis (a j .first) (count j))) i) ((ph ∙ (λ j. onAxis (a j .second) (count j))) i))
+          (λ i. sliceAt (e i) f ((pw ∙ (λ j. onAxis (a j .first) (count j))) i) ((ph ∙ (λ j. onAxis (a j .second) (count j))) i))

@@ -35,7 +35,7 @@ unfoldable pub over : List ℕ → List ℕ → List ℕ
 over xs m = xs ++ drop (length xs) m
 
 module _ (beyond : Bool) (g : Shape) (look : Cell → ℕ) (r : Region) (s k : ℕ) where
-  -- past the depth nothing is visible
+  -- past the depth nothing is laid
   unfoldable pub laidMask : List ℕ → List ℕ
   laidMask m = cond (ltb k (depthOf r s)) (over (sliceMask beyond g look r s k) m) m
 
@@ -58,7 +58,7 @@ unfoldable pub sliced : ℕ → Slice → List ℕ → List ℕ → Sliced
 sliced zero s m m′ = slicedOf (gives s) m′
 sliced (suc n) s m m′ = slicedOf (refused (suc n)) m
 
--- the slots that 10 wants are 0 but for the slice's
+-- accepted, the slots that 10 wants are 0 but for the slice's; refused, the mask is kept
 unfoldable pub sliceCall : Volume → List ℕ → ℕ → Face → ℕ → Bool → List ℕ → Sliced
 sliceCall v cells i f k beyond m =
     sliced

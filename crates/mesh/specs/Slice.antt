@@ -73,7 +73,7 @@ claimFrom s m q =
     (some (record { quad = quadIn s (rectFrom (s .width) (s .height) m q); next = q + 1 }))
     (clearOf (s .width) m (rectFrom (s .width) (s .height) m q))
 
--- none where the mask has too few slots, or none is left
+-- none where the mask has fewer slots than the slice, or only 0 from the cursor on
 unfoldable pub claimCall : Slice → List ℕ → ℕ → Outcome
 claimCall s m from =
     cond (leb (s .height * s .width) (length m) && ltb (firstSeen m from (s .height * s .width)) (s .height * s .width))

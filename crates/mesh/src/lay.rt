@@ -97,7 +97,7 @@ fn lay_slice(
     let _ = fill_part(mask, cells, v, p, side, axes, slice, beyond);
 }
 
-// Lays a slice of a section into a mask. Rules out finishes that a face does not show, and slots of the slice before.
+// Lays a slice of a section into a mask. Rules out finishes that a face does not show, and what an earlier slice left.
 pub fn chunk_slice(
     cells: &[u16],
     v: Volume,

@@ -24,7 +24,7 @@ pub struct Slice {
     pub height: u64,
 }
 
-// A panel and the next cursor; none where no slot is left.
+// A panel and the next cursor; none where only 0 is left, or the mask is shorter than the slice.
 pub enum Claimed {
     Quad(Quad, usize),
     None,
