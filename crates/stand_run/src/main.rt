@@ -1,7 +1,8 @@
 // Document 01's examples P1 to P10 and published outputs of SplitMix64, called and printed.
-mod edits;
+mod answers;
+mod fills;
 mod openings;
-mod show;
+mod set_back;
 
 use show::end;
 use show::plain;
@@ -24,7 +25,7 @@ fn main() {
     text(b"splitmix64, seed 1234567:");
     outputs(1234567);
     openings::show_openings();
-    edits::show_changes();
-    edits::show_set_back();
-    edits::show_clamped_fill();
+    fills::show_changes();
+    set_back::show_set_back();
+    fills::show_clamped_fill();
 }

@@ -1,6 +1,6 @@
 // P1 to P3: which stands open.
-use crate::show::text;
-use crate::show::volume;
+use crate::answers::show_volume;
+use show::text;
 use stand::Cell;
 use stand::volume::Extent;
 use stand::volume::Volume;
@@ -13,7 +13,7 @@ fn open_one(x: i32, size: Extent) {
     let mut log = [1u32; 1];
     let mut last = [1u64; 1];
     let origin = Cell::new(x, 0, 0);
-    volume(Volume::new(
+    show_volume(Volume::new(
         origin,
         size,
         &mut cells,
@@ -32,7 +32,7 @@ fn open_none(size: Extent) {
     let mut log = [0u32; 0];
     let mut last = [0u64; 0];
     let origin = Cell::new(0, 0, 0);
-    volume(Volume::new(
+    show_volume(Volume::new(
         origin,
         size,
         &mut cells,

@@ -1,8 +1,8 @@
--- `stand_run::edits::changes` meets its contract.
+-- `stand_run::fills::changes` meets its contract.
 use Prim.Native.Nat.{_-_, _≤_}
 use borrow.Author.Needs.{needs}
-use Rattle.stand_run.proofs.edits.changes.Statement.{statement}
-use Rattle.stand_run.proofs.edits.changes.Tie as tie
+use Rattle.stand_run.proofs.fills.changes.Statement.{statement}
+use Rattle.stand_run.proofs.fills.changes.Tie as tie
 
 abbrev Inv-loop : tie.InvT-loop
 Inv-loop v log last mark next₀ turns₀ next turns = turns ≤ 3
@@ -58,8 +58,8 @@ returns c = search needs
 enum-known-n : tie.Need-enum-known-n Inv-loop μ-loop
 enum-known-n c = search needs
 
-refused-requires : tie.Need-refused-requires Inv-loop μ-loop
-refused-requires c κs = search needs
+show-refused-requires : tie.Need-show-refused-requires Inv-loop μ-loop
+show-refused-requires c κs = search needs
 
 returns-2 : tie.Need-returns-2 Inv-loop μ-loop
 returns-2 c = search needs
@@ -89,6 +89,6 @@ changes-spec =
     end-requires
     returns
     enum-known-n
-    refused-requires
+    show-refused-requires
     returns-2
     returns-3)

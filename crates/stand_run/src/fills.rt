@@ -1,11 +1,10 @@
-// P4 to P10: what editing a stand leaves.
-use crate::show::cell;
-use crate::show::end;
-use crate::show::number;
-use crate::show::plain;
-use crate::show::refused;
-use crate::show::set;
-use crate::show::text;
+// P4 to P8 and P10: what a fill leaves.
+use crate::answers::show_number;
+use crate::answers::show_refused;
+use show::cell;
+use show::end;
+use show::plain;
+use show::text;
 use stand::Cell;
 use stand::Voxel;
 use stand::volume::Extent;
@@ -34,7 +33,7 @@ fn changes(v: Volume, log: &[u32], last: &[u64], mark: u64) {
                 return;
             }
             ChunkStep::Refused(n) => {
-                refused(n);
+                show_refused(n);
                 return;
             }
         }
@@ -73,72 +72,12 @@ pub fn show_changes() {
     let answer = done.answer;
     let next = done.volume;
     text(b"P4 to P8, cells changed:");
-    number(answer);
+    show_number(answer);
     changes(next, &log, &last, 15);
     changes(next, &log, &last, 16);
     changes(next, &log, &last, 17);
     changes(next, &log, &last, 18);
     changes(next, &log, &last, 14);
-}
-
-// P9: set and set back.
-pub fn show_set_back() {
-    let mut cells = [0u16; 4096];
-    let mut hashes = [0u64; 1];
-    let mut versions = [0u32; 1];
-    let mut log = [0u32; 1];
-    let mut last = [0u64; 1];
-    let size = Extent { x: 1, y: 1, z: 1 };
-    let at = Cell::new(0, 0, 0);
-    let VolumeAnswer::Is(v) = Volume::new(
-        at,
-        size,
-        &mut cells,
-        &mut hashes,
-        &mut versions,
-        &mut log,
-        &mut last,
-    ) else {
-        return;
-    };
-    text(b"P9 digest of a fresh stand:");
-    number(v.digest(&hashes));
-    let one = v.set(
-        &mut cells,
-        &mut hashes,
-        &mut versions,
-        &mut log,
-        &mut last,
-        at,
-        Voxel(7),
-    );
-    let first = one.answer;
-    let after = one.volume;
-    text(b"P9 set:");
-    set(first);
-    text(b"P9 hash");
-    number(after.chunk_hash(&hashes, 0));
-    let two = after.set(
-        &mut cells,
-        &mut hashes,
-        &mut versions,
-        &mut log,
-        &mut last,
-        at,
-        Voxel::EMPTY,
-    );
-    let second = two.answer;
-    let back = two.volume;
-    text(b"P9 set back:");
-    set(second);
-    text(b"P9 hash");
-    number(back.chunk_hash(&hashes, 0));
-    text(b"P9 digest");
-    number(back.digest(&hashes));
-    text(b"P9 version");
-    number(back.chunk_version(&versions, 0));
-    text(b"P9 generation");
-    number(back.generation());
 }
 
 // The first occupied cell.
@@ -149,7 +88,7 @@ fn occupied(v: Volume, cells: &[u16]) {
             end();
         }
         SolidStep::End => text(b" none\n"),
-        SolidStep::Refused(n) => refused(n),
+        SolidStep::Refused(n) => show_refused(n),
     }
 }
 
@@ -185,7 +124,7 @@ pub fn show_clamped_fill() {
     let answer = done.answer;
     let next = done.volume;
     text(b"P10 cells changed:");
-    number(answer);
+    show_number(answer);
     text(b"P10 occupied:");
     occupied(next, &cells);
 }
