@@ -1,6 +1,10 @@
 // Document 01's examples P11 and P12, and what meshing answers at the edges of its rules, called and printed.
+mod examples;
 mod lent;
-mod show;
+mod print;
+mod refusals;
+mod sides;
+mod slices;
 mod stands;
 
 use mesh::Quad;
@@ -40,11 +44,16 @@ fn show_merged() {
 }
 
 fn main() {
-    stands::show_one();
-    stands::show_corner();
-    stands::show_row();
+    examples::show_one();
+    examples::show_corner();
+    examples::show_row();
+    sides::show_box();
+    sides::show_blocks();
+    sides::show_ends();
+    slices::show_slices();
+    slices::show_large();
     lent::show_masks();
     lent::show_lists();
-    lent::show_refusals();
+    refusals::show_refusals();
     show_merged();
 }

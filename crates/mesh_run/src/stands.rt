@@ -1,18 +1,12 @@
-// P11, P12 and a stand that ends within its second section.
-use crate::show::end;
-use crate::show::panels;
-use crate::show::text;
-use crate::show::tops;
-use mesh::Beyond;
-use mesh::faces::chunk_faces;
-use mesh::faces::faces;
+// Stands of one section, made by opening, set and fill. Each call gets lists beside the cells as opening leaves them: meshing reads none.
+ghost use mathlib.Core.Path.{_≡_};
+ghost use lib.ListN.{length};
 use stand::Cell;
 use stand::Voxel;
 use stand::volume::Extent;
 use stand::volume::Volume;
 use stand::volume::answer::VolumeAnswer;
 
-// A stand of one section, empty.
 pub fn opened(origin: Cell, size: Extent, cells: &mut [u16]) -> VolumeAnswer {
     let mut hashes = [0u64; 1];
     let mut versions = [0u32; 1];
@@ -29,13 +23,11 @@ pub fn opened(origin: Cell, size: Extent, cells: &mut [u16]) -> VolumeAnswer {
     )
 }
 
-// Its lowest cell set, the lists beside the cells being as opening leaves them.
-pub fn with_block(v: Volume, cells: &mut [u16]) -> Volume {
+fn with_block(v: Volume, cells: &mut [u16], at: Cell) -> Volume {
     let mut hashes = [0u64; 1];
     let mut versions = [0u32; 1];
     let mut log = [0u32; 1];
     let mut last = [0u64; 1];
-    let at = v.origin;
     let done = v.set(
         cells,
         &mut hashes,
@@ -48,123 +40,59 @@ pub fn with_block(v: Volume, cells: &mut [u16]) -> Volume {
     done.volume
 }
 
-// P11: one occupied cell.
-fn mesh_one(x: i32, beyond: Beyond) {
-    let mut cells = [0u16; 4096];
-    let size = Extent { x: 1, y: 1, z: 1 };
-    let VolumeAnswer::Is(fresh) = opened(Cell::new(x, 0, 0), size, &mut cells) else {
-        return;
-    };
-    let v = with_block(fresh, &mut cells);
-    let mut mask = [0u16; 1];
-    let mut list = [0i32; 48];
-    text(b" section");
-    panels(chunk_faces(&cells, v, 0, beyond, &mut mask, &mut list));
-    text(b" whole");
-    panels(faces(&cells, v, beyond, &mut mask, &mut list));
-    end();
-}
-
-pub fn show_one() {
-    text(b"P11 outside empty:");
-    mesh_one(0, Beyond::Empty);
-    text(b"P11 outside solid:");
-    mesh_one(0, Beyond::Solid);
-    text(b"P11 origin 2147483647:");
-    mesh_one(2147483647, Beyond::Empty);
-}
-
-// P12: three blocks in an L.
-pub fn show_corner() {
-    let mut cells = [0u16; 4096];
+// Filled from the lowest cell to another.
+fn filled(v: Volume, cells: &mut [u16], to: Cell) -> Volume {
     let mut hashes = [0u64; 1];
     let mut versions = [0u32; 1];
     let mut log = [0u32; 1];
     let mut last = [0u64; 1];
-    let size = Extent { x: 2, y: 1, z: 2 };
-    let VolumeAnswer::Is(v) = Volume::new(
-        Cell::new(0, 0, 0),
-        size,
-        &mut cells,
+    let from = v.origin;
+    let done = v.fill(
+        cells,
         &mut hashes,
         &mut versions,
         &mut log,
         &mut last,
-    ) else {
-        return;
-    };
-    let row = v.fill(
-        &mut cells,
-        &mut hashes,
-        &mut versions,
-        &mut log,
-        &mut last,
-        Cell::new(0, 0, 0),
-        Cell::new(1, 0, 0),
+        from,
+        to,
         Voxel(3),
     );
-    let two = row.volume;
-    let block = two.set(
-        &mut cells,
-        &mut hashes,
-        &mut versions,
-        &mut log,
-        &mut last,
-        Cell::new(0, 0, 1),
-        Voxel(3),
-    );
-    let three = block.volume;
-    let mut mask = [0u16; 4];
-    let mut list = [9i32; 80];
-    text(b"P12 panels:");
-    panels(faces(&cells, three, Beyond::Empty, &mut mask, &mut list));
-    tops(&list);
-    end();
+    done.volume
 }
 
-// 17 cells in a row: the second section holds one.
-pub fn show_row() {
-    let mut cells = [0u16; 8192];
-    let mut hashes = [0u64; 2];
-    let mut versions = [0u32; 2];
-    let mut log = [0u32; 2];
-    let mut last = [0u64; 2];
-    let size = Extent { x: 17, y: 1, z: 1 };
-    let VolumeAnswer::Is(v) = Volume::new(
-        Cell::new(0, 0, 0),
-        size,
-        &mut cells,
-        &mut hashes,
-        &mut versions,
-        &mut log,
-        &mut last,
-    ) else {
-        return;
-    };
-    let done = v.fill(
-        &mut cells,
-        &mut hashes,
-        &mut versions,
-        &mut log,
-        &mut last,
-        Cell::new(0, 0, 0),
-        Cell::new(16, 0, 0),
-        Voxel(3),
-    );
-    let row = done.volume;
-    let mut mask = [0u16; 17];
-    let mut list = [9i32; 48];
-    let beyond = Beyond::Empty;
-    text(b"row of 17, section 0:");
-    panels(chunk_faces(&cells, row, 0, beyond, &mut mask, &mut list));
-    tops(&list);
-    end();
-    text(b"row of 17, section 1:");
-    panels(chunk_faces(&cells, row, 1, beyond, &mut mask, &mut list));
-    tops(&list);
-    end();
-    text(b"row of 17, whole:");
-    panels(faces(&cells, row, beyond, &mut mask, &mut list));
-    tops(&list);
-    end();
+// One occupied cell, which is the stand.
+pub fn block(at: Cell, cells: &mut [u16; 4096]) -> VolumeAnswer
+    ensures { λ _. ⌜ 4096 ≡ length (now (cells .exit)) ⌝ }
+{
+    block_in(at, Extent { x: 1, y: 1, z: 1 }, at, cells)
+}
+
+// One occupied cell in a stand.
+pub fn block_in(origin: Cell, size: Extent, at: Cell, cells: &mut [u16; 4096]) -> VolumeAnswer
+    ensures { λ _. ⌜ 4096 ≡ length (now (cells .exit)) ⌝ }
+{
+    match opened(origin, size, cells) {
+        VolumeAnswer::Is(v) => VolumeAnswer::Is(with_block(v, cells, at)),
+        VolumeAnswer::Refused(n) => VolumeAnswer::Refused(n),
+    }
+}
+
+// A box from 0 to a cell, all occupied.
+pub fn full(to: Cell, size: Extent, cells: &mut [u16; 4096]) -> VolumeAnswer
+    ensures { λ _. ⌜ 4096 ≡ length (now (cells .exit)) ⌝ }
+{
+    match opened(Cell::new(0, 0, 0), size, cells) {
+        VolumeAnswer::Is(v) => VolumeAnswer::Is(filled(v, cells, to)),
+        VolumeAnswer::Refused(n) => VolumeAnswer::Refused(n),
+    }
+}
+
+// P12's three blocks in an L.
+pub fn corner(cells: &mut [u16; 4096]) -> VolumeAnswer
+    ensures { λ _. ⌜ 4096 ≡ length (now (cells .exit)) ⌝ }
+{
+    match full(Cell::new(1, 0, 0), Extent { x: 2, y: 1, z: 2 }, cells) {
+        VolumeAnswer::Is(v) => VolumeAnswer::Is(with_block(v, cells, Cell::new(0, 0, 1))),
+        VolumeAnswer::Refused(n) => VolumeAnswer::Refused(n),
+    }
 }

@@ -1,9 +1,9 @@
--- `mesh_run::show::tops` meets its contract.
+-- `mesh_run::print::tops` meets its contract.
 use Prim.Native.Nat.{_-_, _≤_}
 use lib.ListN.{length}
 use borrow.Author.Needs.{needs}
-use Rattle.mesh_run.proofs.show.tops.Statement.{statement}
-use Rattle.mesh_run.proofs.show.tops.Tie as tie
+use Rattle.mesh_run.proofs.print.tops.Statement.{statement}
+use Rattle.mesh_run.proofs.print.tops.Tie as tie
 
 abbrev Inv-loop : tie.InvT-loop
 Inv-loop list at₀ t3 at = at ≤ length list

@@ -1,9 +1,9 @@
--- `mesh_run::show::slots` meets its contract.
+-- `mesh_run::print::slots` meets its contract.
 use Prim.Native.Nat.{_-_, _≤_}
 use lib.ListN.{length}
 use borrow.Author.Needs.{needs}
-use Rattle.mesh_run.proofs.show.slots.Statement.{statement}
-use Rattle.mesh_run.proofs.show.slots.Tie as tie
+use Rattle.mesh_run.proofs.print.slots.Statement.{statement}
+use Rattle.mesh_run.proofs.print.slots.Tie as tie
 
 abbrev Inv-loop : tie.InvT-loop
 Inv-loop mask i₀ i = i ≤ length mask

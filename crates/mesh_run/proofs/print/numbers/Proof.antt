@@ -1,9 +1,9 @@
--- `mesh_run::show::numbers` meets its contract.
+-- `mesh_run::print::numbers` meets its contract.
 use Prim.Native.Nat.{_-_, _≤_}
 use lib.ListN.{length}
 use borrow.Author.Needs.{needs}
-use Rattle.mesh_run.proofs.show.numbers.Statement.{statement}
-use Rattle.mesh_run.proofs.show.numbers.Tie as tie
+use Rattle.mesh_run.proofs.print.numbers.Statement.{statement}
+use Rattle.mesh_run.proofs.print.numbers.Tie as tie
 
 abbrev Inv-loop : tie.InvT-loop
 Inv-loop list from to i₀ i = (to ≤ length list) × (from ≤ i)
