@@ -1,11 +1,8 @@
 // The visible finishes of one slice of a section, laid into a mask, from which `Slice::claim` takes the panels.
 ghost use mathlib.Core.Path.{_≡_};
 ghost use mathlib.Core.Bool.{true};
-ghost use Rattle.arith.specs.Level.{numberOf};
-ghost use Rattle.stand.specs.Cells.{cellOf};
 ghost use Rattle.stand.specs.Edit.{look};
-ghost use Prim.Native.Nat.{_+_, _^_};
-ghost use Rattle.stand.specs.Shape.{Below, shapeOf, wellFormed};
+ghost use Rattle.stand.specs.Shape.{shapeOf, wellFormed};
 ghost use Rattle.stand.specs.Sides.{sideNumber};
 ghost use Rattle.mesh.specs.Lay.{SomePart, laidMask, sliceAnswer, sliceCall, sliceOf, slicedOf};
 ghost use Rattle.mesh.specs.Tiles.{MeshIn, partOf};
@@ -15,33 +12,20 @@ use crate::claim::clear_run;
 use crate::faces::is_empty_beyond;
 use crate::part::on_axis;
 use crate::slice::Slice;
+use crate::slice::cell_up;
 use crate::slice::turn;
 use crate::tiles::Part;
 use crate::tiles::fill_part;
 use crate::tiles::largest;
 use crate::tiles::section_part;
-use arith::level::from_level;
-use stand::Cell;
 use stand::Face;
 use stand::volume::Volume;
-use stand::volume::shape::Point;
 use stand::volume::shape::cells_code;
 
 // The slice laid, or refused.
 pub enum SliceAnswer {
     Is(Slice),
     Refused(u32),
-}
-
-// The cell d up from levels l.
-fn cell_up(l: Point, d: Point) -> Cell
-    requires { ⌜ Below (2 ^ 63) l × Below (2 ^ 63) d ⌝ }
-    ensures { λ r. ⌜ r ≡ cellOf (numberOf (l .x + d .x)) (numberOf (l .y + d .y)) (numberOf (l .z + d .z)) ⌝ }
-{
-    let x = from_level(l.x + d.x);
-    let y = from_level(l.y + d.y);
-    let z = from_level(l.z + d.z);
-    Cell { x, y, z }
 }
 
 // Where a slice of a part lies.

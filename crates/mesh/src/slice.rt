@@ -1,6 +1,8 @@
 // Panels claimed one at a time, from a mask that the caller lends.
 ghost use mathlib.Core.Path.{_≡_};
-ghost use Prim.Native.Nat.{_<_, _^_};
+ghost use Prim.Native.Nat.{_+_, _<_, _^_};
+ghost use Rattle.arith.specs.Level.{numberOf};
+ghost use Rattle.stand.specs.Cells.{cellOf};
 ghost use Rattle.stand.specs.Shape.{Below};
 ghost use Rattle.mesh.specs.Frame.{rectOf};
 ghost use Rattle.mesh.specs.Part.{facing};
@@ -44,16 +46,24 @@ pub(crate) fn turn(side: usize, k: u64, u: u64, v: u64) -> Point
     Point { x: u, y: v, z: k }
 }
 
+// The cell d up from levels l, saturating.
+pub(crate) fn cell_up(l: Point, d: Point) -> Cell
+    requires { ⌜ Below (2 ^ 63) l × Below (2 ^ 63) d ⌝ }
+    ensures { λ r. ⌜ r ≡ cellOf (numberOf (l .x + d .x)) (numberOf (l .y + d .y)) (numberOf (l .z + d .z)) ⌝ }
+{
+    let x = from_level(l.x + d.x);
+    let y = from_level(l.y + d.y);
+    let z = from_level(l.z + d.z);
+    Cell { x, y, z }
+}
+
 // A cell moved by whole steps, saturating. By levels, since a step may pass i32.
 fn shift(c: Cell, d: Point) -> Cell
     requires { ⌜ Below (2 ^ 63) d ⌝ }
     ensures { λ r. ⌜ r ≡ shifted c d ⌝ }
 {
     let l = levels(c);
-    let x = from_level(l.x + d.x);
-    let y = from_level(l.y + d.y);
-    let z = from_level(l.z + d.z);
-    Cell { x, y, z }
+    cell_up(l, d)
 }
 
 // Extents; one past i32 is held to 2,147,483,647.

@@ -1,9 +1,9 @@
--- `mesh::lay::cell_up` meets its contract.
+-- `mesh::slice::cell_up` meets its contract.
 use mathlib.Core.Path.{_∙_}
 use Rattle.arith.proofs.Signed.{back}
 use borrow.Author.Needs.{needs}
-use Rattle.mesh.proofs.lay.cell_up.Statement.{statement}
-use Rattle.mesh.proofs.lay.cell_up.Tie as tie
+use Rattle.mesh.proofs.slice.cell_up.Statement.{statement}
+use Rattle.mesh.proofs.slice.cell_up.Tie as tie
 
 add-from-level : tie.Need-add-from-level
 add-from-level c = search needs
