@@ -16,10 +16,11 @@ use Rattle.stand.specs.declared.Axes.{Axes}
 use Rattle.stand.specs.declared.Cell.{Cell}
 use Rattle.mesh.specs.Part.{cellIn, facing, heightOf, onAxis, sectionPart, widthOf}
 use Rattle.mesh.specs.Plane.{Filled, PlaneIn, PlaneTo, cellPlane, seenAt, seenPlane}
-use Rattle.mesh.specs.Step.{Follows, SectionIs, SliceIn, SliceOf, onward, sliceShown, strideOn}
+use Rattle.mesh.specs.Step.{Follows, SectionIs, SliceIn, SliceOf, gridOf, onward, sliceShown, strideOn}
 use Rattle.mesh.specs.Visible.{clears, shown}
 use Rattle.mesh.specs.declared.part.Next.the-variants as N
 use Rattle.mesh.specs.declared.part.Section.{Section}
+use Rattle.mesh.specs.declared.plane.Grid.{Grid}
 use Rattle.mesh.proofs.Laid.{filled-as}
 use Rattle.mesh.proofs.Parts.{facing-sixteen, section-inside, section-slot, within-facing, within-lt}
 use Rattle.mesh.proofs.Step.{extents, narrow}
@@ -90,16 +91,15 @@ pub record Steps (g : Shape) (i s w h a b d : ℕ) : Type 0 where
   pub first : b ≡ strideOn (firstAt s)
   pub second : d ≡ strideOn (secondAt s)
 
-pub steps-are : {g : Shape} {i s : ℕ} {c : Section} {x : Axes} {w h a b d : ℕ} → SectionIs g i c → x ≡ axesAt s → w ≡ onAxis (x .first) (c .count) → h ≡ onAxis (x .second) (c .count)
-    → a ≡ strideOn (x .normal) → b ≡ strideOn (x .first) → d ≡ strideOn (x .second) → Steps g i s w h a b d
+pub steps-are : {g : Shape} {i s : ℕ} {c : Section} {x : Axes} {r : Grid} → SectionIs g i c → x ≡ axesAt s → r ≡ gridOf (c .count) x → Steps g i s (r .w) (r .h) (r .normal) (r .first) (r .second)
 unfolding axesAt widthOf heightOf
-steps-are q e w h a b d =
+steps-are q e r =
     record {
-      width = w ∙ (λ j. onAxis (e j .first) (q .count j));
-      height = h ∙ (λ j. onAxis (e j .second) (q .count j));
-      normal = a ∙ (λ j. strideOn (e j .normal));
-      first = b ∙ (λ j. strideOn (e j .first));
-      second = d ∙ (λ j. strideOn (e j .second));
+      width = (λ j. r j .w) ∙ (λ j. onAxis (e j .first) (q .count j));
+      height = (λ j. r j .h) ∙ (λ j. onAxis (e j .second) (q .count j));
+      normal = (λ j. r j .normal) ∙ (λ j. strideOn (e j .normal));
+      first = (λ j. r j .first) ∙ (λ j. strideOn (e j .first));
+      second = (λ j. r j .second) ∙ (λ j. strideOn (e j .second));
     }
 
 module _ {g : Shape} {cells mask : List ℕ} {c : Section} {i s k to pitch : ℕ} (q : SliceIn g cells mask c i s k to pitch) {w h a b d : ℕ} (e : Steps g i s w h a b d) where

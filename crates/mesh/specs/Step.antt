@@ -7,13 +7,15 @@ use mathlib.Core.List.{List}
 use lib.ListN.{length, getD}
 use Rattle.stand.specs.Shape.{Ranged, Shape, chunkPlace, counted, inside, levelsOf, opens, sections, slot, withinAt}
 use Rattle.stand.specs.Edit.{look}
+use Rattle.stand.specs.declared.Axes.{Axes}
 use Rattle.stand.specs.declared.Cell.{Cell}
 use Rattle.stand.specs.declared.volume.shape.Point.{Point}
-use Rattle.mesh.specs.Part.{added, cellIn, depthOf, facing, heightOf, sectionPart, widthOf}
+use Rattle.mesh.specs.Part.{added, cellIn, depthOf, facing, heightOf, onAxis, sectionPart, widthOf}
 use Rattle.mesh.specs.Visible.{ahead, shown}
 use Rattle.mesh.specs.declared.part.Next.{Next}
 use Rattle.mesh.specs.declared.part.Next.the-variants as N
 use Rattle.mesh.specs.declared.part.Section.{Section}
+use Rattle.mesh.specs.declared.plane.Grid.{Grid}
 
 -- how far apart the indices of neighbouring cells of a section are along axis a
 abbrev pub strideOn : ℕ → ℕ
@@ -26,6 +28,10 @@ abbrev pub hopOn : Point → ℕ → ℕ
 hopOn k zero = 1
 hopOn k (suc zero) = k .x
 hopOn k (suc (suc a)) = k .x * k .y
+
+-- the steps along a side's axes x, and the cells of count n along first and second
+abbrev pub gridOf : Point → Axes → Grid
+gridOf n x = record { normal = strideOn (x .normal); first = strideOn (x .first); second = strideOn (x .second); w = onAxis (x .first) n; h = onAxis (x .second) n }
 
 pub record SectionIs (g : Shape) (i : ℕ) (s : Section) : Type 0 where
   pub chunks : s .chunks ≡ counted g

@@ -6,7 +6,8 @@ ghost use Rattle.stand.specs.Shape.{chunkPlace, product, sections, shapeOf, wel
 ghost use Rattle.stand.specs.Sides.{axesAt, normalAt};
 ghost use Rattle.mesh.specs.Part.{heightOf, onAxis, sectionPart, widthOf};
 ghost use Rattle.mesh.specs.Plane.{Filled};
-ghost use Rattle.mesh.specs.Step.{Follows, SectionIs, SliceIn, SliceOf, hopOn, sliceShown, strideOn};
+ghost use Rattle.mesh.specs.Step.{Follows, SectionIs, SliceIn, SliceOf, gridOf, hopOn, sliceShown, strideOn};
+use crate::plane::Grid;
 use crate::plane::fill_outer;
 use crate::plane::fill_plane;
 use stand::Axes;
@@ -212,6 +213,23 @@ fn next_of(
     next_down(v, c, chunk, side, normal, slice, beyond)
 }
 
+fn grid_of(count: Point, axes: Axes) -> Grid
+    ensures { λ r. ⌜ r ≡ gridOf count axes ⌝ }
+{
+    let normal = stride_on(axes.normal);
+    let first = stride_on(axes.first);
+    let second = stride_on(axes.second);
+    let w = on_axis(count, axes.first) as usize;
+    let h = on_axis(count, axes.second) as usize;
+    Grid {
+        normal,
+        first,
+        second,
+        w,
+        h,
+    }
+}
+
 // The mask of one slice, from this plane and the next one; 0 says that nothing is visible.
 pub(crate) fn fill_slice(
     mask: &mut [u16],
@@ -231,11 +249,8 @@ pub(crate) fn fill_slice(
 {
     let next = next_of(v, c, chunk, side, axes.normal, slice, beyond);
     let count = c.count;
-    let w = on_axis(count, axes.first) as usize;
-    let h = on_axis(count, axes.second) as usize;
-    let normal = stride_on(axes.normal);
-    let first = stride_on(axes.first);
-    let second = stride_on(axes.second);
+    let g = grid_of(count, axes);
+    let at = slice * g.normal;
     let from = chunk * CELLS;
     let end = from + CELLS;
     let here = &cells[from..end];
@@ -244,22 +259,10 @@ pub(crate) fn fill_slice(
             let start = k * CELLS;
             let stop = start + CELLS;
             let there = &cells[start..stop];
-            return fill_plane(
-                mask,
-                to,
-                pitch,
-                here,
-                slice * normal,
-                there,
-                t * normal,
-                first,
-                second,
-                w,
-                h,
-            );
+            return fill_plane(mask, to, pitch, here, at, there, t * g.normal, g);
         }
         Next::Open => {
-            return fill_outer(mask, to, pitch, here, slice * normal, first, second, w, h);
+            return fill_outer(mask, to, pitch, here, at, g);
         }
         Next::Shut => {
             return 0;

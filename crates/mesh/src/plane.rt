@@ -4,6 +4,15 @@ ghost use lib.ListN.{length, getD};
 ghost use Rattle.mesh.specs.Plane.{Laid, Filled, FilledRow, RowIn, RowTo, PlaneIn, PlaneTo};
 ghost use Rattle.mesh.specs.Plane.{seenRow, seenPlane, cellRow, cellPlane};
 
+// How the cells of a slice lie within their section: steps along the three axes, and cells along first and second.
+pub struct Grid {
+    pub normal: usize,
+    pub first: usize,
+    pub second: usize,
+    pub w: usize,
+    pub h: usize,
+}
+
 // Sixteen slots: each takes this cell where the next one is empty, else 0.
 fn see_row(row: &mut [u16; 16], here: &[u16], at: usize, next: &[u16], beside: usize)
     requires { ⌜ RowTo 0 16 (length (now row)) at 1 (length (now here)) ⌝ }
@@ -113,27 +122,24 @@ pub(crate) fn fill_plane(
     at: usize,
     next: &[u16],
     beside: usize,
-    first: usize,
-    second: usize,
-    w: usize,
-    h: usize,
+    g: Grid,
 ) -> u16
-    requires { ⌜ PlaneTo to pitch w h (length (now mask)) at first second (length (now here)) ⌝ }
-    requires { ⌜ PlaneIn beside first second w h (length (now next)) ⌝ }
-    ensures { λ r. ⌜ Filled (now (mask .entry)) (now (mask .exit)) r to pitch w h (seenPlane (now (here .entry)) (now (next .entry)) at beside first second) ⌝ }
+    requires { ⌜ PlaneTo to pitch (g .w) (g .h) (length (now mask)) at (g .first) (g .second) (length (now here)) ⌝ }
+    requires { ⌜ PlaneIn beside (g .first) (g .second) (g .w) (g .h) (length (now next)) ⌝ }
+    ensures { λ r. ⌜ Filled (now (mask .entry)) (now (mask .exit)) r to pitch (g .w) (g .h) (seenPlane (now (here .entry)) (now (next .entry)) at beside (g .first) (g .second)) ⌝ }
 {
     let mut any: u16 = 0;
     let mut v = 0;
-    while v < h {
+    while v < g.h {
         let row = fill_row(
             mask,
             to + v * pitch,
             here,
-            at + v * second,
+            at + v * g.second,
             next,
-            beside + v * second,
-            first,
-            w,
+            beside + v * g.second,
+            g.first,
+            g.w,
         );
         any = any | row;
         v += 1;
@@ -163,18 +169,15 @@ pub(crate) fn fill_outer(
     pitch: usize,
     here: &[u16],
     at: usize,
-    first: usize,
-    second: usize,
-    w: usize,
-    h: usize,
+    g: Grid,
 ) -> u16
-    requires { ⌜ PlaneTo to pitch w h (length (now mask)) at first second (length (now here)) ⌝ }
-    ensures { λ r. ⌜ Filled (now (mask .entry)) (now (mask .exit)) r to pitch w h (cellPlane (now (here .entry)) at first second) ⌝ }
+    requires { ⌜ PlaneTo to pitch (g .w) (g .h) (length (now mask)) at (g .first) (g .second) (length (now here)) ⌝ }
+    ensures { λ r. ⌜ Filled (now (mask .entry)) (now (mask .exit)) r to pitch (g .w) (g .h) (cellPlane (now (here .entry)) at (g .first) (g .second)) ⌝ }
 {
     let mut any: u16 = 0;
     let mut v = 0;
-    while v < h {
-        let row = copy_row(mask, to + v * pitch, here, at + v * second, first, w);
+    while v < g.h {
+        let row = copy_row(mask, to + v * pitch, here, at + v * g.second, g.first, g.w);
         any = any | row;
         v += 1;
     }
