@@ -23,6 +23,7 @@ impl Voxel {
 }
 
 // A cell's address.
+#[repr(C)]
 pub struct Cell {
     // East.
     pub x: i32,

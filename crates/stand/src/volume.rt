@@ -24,6 +24,7 @@ pub const CHUNK_CELLS: u64 = 4_096;
 pub const MAX_CHUNKS: u64 = 65_536;
 
 // Three numbers along the axes: a size in cells, or a count of chunks.
+#[repr(C)]
 pub struct Extent {
     pub x: i32,
     pub y: i32,
@@ -31,6 +32,7 @@ pub struct Extent {
 }
 
 // Document 01's header of a stand.
+#[repr(C)]
 pub struct Volume {
     // The lowest cell.
     pub origin: Cell,

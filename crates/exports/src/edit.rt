@@ -1,0 +1,128 @@
+// Opening, setting and filling.
+use stand::Cell;
+use stand::Voxel;
+use stand::volume::Extent;
+use stand::volume::Volume;
+use stand::volume::answer::NumberAnswer;
+use stand::volume::answer::SetAnswer;
+use stand::volume::answer::VolumeAnswer;
+
+// A stand just opened; a header of zeros where it is refused.
+#[repr(C)]
+pub struct Opened {
+    pub code: u32,
+    pub volume: Volume,
+}
+
+// The cells changed, and the header after the edit.
+#[repr(C)]
+pub struct Edited {
+    pub code: u32,
+    pub changed: u64,
+    pub volume: Volume,
+}
+
+fn no_volume() -> Volume {
+    let origin = Cell { x: 0, y: 0, z: 0 };
+    let none = Extent { x: 0, y: 0, z: 0 };
+    Volume {
+        origin,
+        chunks: none,
+        size: none,
+        generation: 0,
+        solid: 0,
+    }
+}
+
+fn open_reply(a: VolumeAnswer) -> Opened {
+    match a {
+        VolumeAnswer::Is(volume) => Opened { code: 0, volume },
+        VolumeAnswer::Refused(code) => {
+            let volume = no_volume();
+            Opened { code, volume }
+        }
+    }
+}
+
+fn set_reply(a: SetAnswer, volume: Volume) -> Edited {
+    match a {
+        SetAnswer::Changed => Edited {
+            code: 0,
+            changed: 1,
+            volume,
+        },
+        SetAnswer::Unchanged => Edited {
+            code: 0,
+            changed: 0,
+            volume,
+        },
+        SetAnswer::Refused(code) => Edited {
+            code,
+            changed: 0,
+            volume,
+        },
+    }
+}
+
+fn fill_reply(a: NumberAnswer, volume: Volume) -> Edited {
+    match a {
+        NumberAnswer::Is(changed) => Edited {
+            code: 0,
+            changed,
+            volume,
+        },
+        NumberAnswer::Refused(code) => Edited {
+            code,
+            changed: 0,
+            volume,
+        },
+    }
+}
+
+#[no_mangle]
+pub extern "C" fn stand_open(
+    origin: Cell,
+    size: Extent,
+    cells: &mut [u16],
+    hashes: &mut [u64],
+    versions: &mut [u32],
+    log: &mut [u32],
+    last: &mut [u64],
+) -> Opened {
+    open_reply(Volume::new(origin, size, cells, hashes, versions, log, last))
+}
+
+#[no_mangle]
+pub extern "C" fn stand_set(
+    volume: Volume,
+    cells: &mut [u16],
+    hashes: &mut [u64],
+    versions: &mut [u32],
+    log: &mut [u32],
+    last: &mut [u64],
+    cell: Cell,
+    finish: u16,
+) -> Edited {
+    let done = volume.set(cells, hashes, versions, log, last, cell, Voxel(finish));
+    let answer = done.answer;
+    let after = done.volume;
+    set_reply(answer, after)
+}
+
+#[no_mangle]
+pub extern "C" fn stand_fill(
+    volume: Volume,
+    cells: &mut [u16],
+    hashes: &mut [u64],
+    versions: &mut [u32],
+    log: &mut [u32],
+    last: &mut [u64],
+    from: Cell,
+    to: Cell,
+    finish: u16,
+) -> Edited {
+    let done = volume.fill(cells, hashes, versions, log, last, from, to, Voxel(finish));
+    let answer = done.answer;
+    let after = done.volume;
+    fill_reply(answer, after)
+}

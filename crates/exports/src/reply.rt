@@ -1,0 +1,77 @@
+// Answers as C gets them: a code, 0 for accepted, and the value; a refused answer has 0 in all else.
+use stand::Cell;
+use stand::volume::Extent;
+use stand::volume::Volume;
+use stand::volume::answer::BoolAnswer;
+use stand::volume::answer::CellAnswer;
+use stand::volume::answer::ExtentAnswer;
+use stand::volume::answer::NumberAnswer;
+use stand::volume::answer::VoxelAnswer;
+
+// A number.
+#[repr(C)]
+pub struct Number {
+    pub code: u32,
+    pub value: u64,
+}
+
+// A cell.
+#[repr(C)]
+pub struct Place {
+    pub code: u32,
+    pub cell: Cell,
+}
+
+// Three numbers along the axes.
+#[repr(C)]
+pub struct Span {
+    pub code: u32,
+    pub extent: Extent,
+}
+
+pub(crate) fn number_reply(a: NumberAnswer) -> Number {
+    match a {
+        NumberAnswer::Is(value) => Number { code: 0, value },
+        NumberAnswer::Refused(code) => Number { code, value: 0 },
+    }
+}
+
+pub(crate) fn bool_reply(a: BoolAnswer) -> Number {
+    match a {
+        BoolAnswer::Is(b) => Number {
+            code: 0,
+            value: b as u64,
+        },
+        BoolAnswer::Refused(code) => Number { code, value: 0 },
+    }
+}
+
+pub(crate) fn voxel_reply(a: VoxelAnswer) -> Number {
+    match a {
+        VoxelAnswer::Is(v) => Number {
+            code: 0,
+            value: v.0 as u64,
+        },
+        VoxelAnswer::Refused(code) => Number { code, value: 0 },
+    }
+}
+
+pub(crate) fn cell_reply(a: CellAnswer) -> Place {
+    match a {
+        CellAnswer::Is(cell) => Place { code: 0, cell },
+        CellAnswer::Refused(code) => Place {
+            code,
+            cell: Cell { x: 0, y: 0, z: 0 },
+        },
+    }
+}
+
+pub(crate) fn extent_reply(a: ExtentAnswer) -> Span {
+    match a {
+        ExtentAnswer::Is(extent) => Span { code: 0, extent },
+        ExtentAnswer::Refused(code) => Span {
+            code,
+            extent: Extent { x: 0, y: 0, z: 0 },
+        },
+    }
+}

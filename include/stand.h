@@ -1,0 +1,299 @@
+/*
+ * The stand in C: a store of coated cubes, its edits, its changes, and its panels.
+ *
+ * Link with libexports.a, which `rt staticlib exports` writes (x86-64 Linux).
+ *
+ * Terms. A cell is a cube at whole coordinates x, y, z; it holds a finish, 1 to 65,535, or 0 for empty.
+ * A section is 16 by 16 by 16 cells; sections are numbered from 0, x fastest, then y, then z. A panel is a
+ * rectangle of visible faces of one side and one finish. The generation counts the changes of a stand.
+ *
+ * Lists. The caller owns all memory. Each list is a pointer followed by a count of entries. Nothing is kept
+ * after a call, and nothing is allocated. A pointer must be aligned for its type and not null, even where
+ * the count is 0. Lists of one call must not overlap, unless all of them are const. A list that is not
+ * const may be written; the comment of a function says by which call and how. A stand of n sections
+ * (stand_chunk_count) has these lists, and each must have exactly this many entries:
+ *
+ *     cells      n * 4096   the finish of each cell
+ *     hashes     n          the hash of each section
+ *     versions   n          the version of each section; it goes from 4,294,967,295 to 0
+ *     log        n          the sections of the latest changes
+ *     last       n          the generation of each section's last change
+ *
+ * The header. stand_volume goes by value. A call that edits answers the header after it, which the next
+ * call must be given: an older header does not fit the lists any more. Other calls leave header and lists
+ * as they are, unless their comment says so.
+ *
+ * Answers. Each has a code: 0 for accepted, or the lowest number under which the call is refused. A refused
+ * call writes nothing, and all else in its answer is 0, but for what STAND_SHORT_LIST says, and but for the
+ * header in stand_edited, which is then the one given.
+ */
+#ifndef STAND_H
+#define STAND_H
+
+#include <stddef.h>
+#include <stdint.h>
+
+#ifdef __cplusplus
+extern "C" {
+#endif
+
+/* ---- codes ---- */
+
+enum {
+    STAND_OK = 0,
+    STAND_TOO_MANY_CHUNKS = 1,  /* opening: more than 65,536 sections */
+    STAND_PAST_I32 = 2,         /* opening: the last cell is past 2,147,483,647 on an axis */
+    STAND_BAD_HEADER = 3,       /* a header whose sizes and sections opening would not give */
+    STAND_BAD_LENGTH = 4,       /* a list of another length than the stand needs */
+    STAND_OUTSIDE = 5,          /* the cell is outside the stand */
+    STAND_LAST_GENERATION = 6,  /* fewer generations remain than the edit may need */
+    STAND_BAD_CHUNK = 7,        /* the section's number is too high */
+    STAND_MARK_AHEAD = 8,       /* the mark is above the generation */
+    STAND_MARK_TOO_OLD = 9,     /* more changes since the mark than there are sections */
+    STAND_SHORT_MASK = 10,      /* the mask has fewer slots than the largest side of what is meshed */
+    STAND_SHORT_LIST = 11,      /* the panel list is too short: value is the panels needed, the list holds
+                                   the first that fit, and the mask is left as by an accepted call */
+    STAND_BAD_RATE = 12,        /* pricing: a rate or the cut above its limit, or a finish with no rate */
+    STAND_BAD_PANEL = 13,       /* extents that are not all positive, or whose product is past i32 */
+    STAND_BAD_ARGUMENT = 100    /* a rule other than 0 and 1, or a side above 5; before all others */
+};
+
+/* What lies outside the stand, for meshing. */
+enum {
+    STAND_OUTSIDE_HIDES = 0,  /* a face towards the outside is not visible */
+    STAND_OUTSIDE_SHOWS = 1   /* it is visible */
+};
+
+/* Sides, with the first and second axis of their plane. */
+enum {
+    STAND_EAST = 0,    /* towards +x; y, z */
+    STAND_WEST = 1,    /* towards -x; y, z */
+    STAND_TOP = 2,     /* towards +y; x, z */
+    STAND_BOTTOM = 3,  /* towards -y; x, z */
+    STAND_NORTH = 4,   /* towards +z; x, y */
+    STAND_SOUTH = 5    /* towards -z; x, y */
+};
+
+/* ---- structs ---- */
+
+/* A cell's place. */
+typedef struct {
+    int32_t x, y, z;
+} stand_cell;
+
+/* Three counts along the axes: of cells, or of sections. */
+typedef struct {
+    int32_t x, y, z;
+} stand_extent;
+
+/* The header. Opening makes it; do not fill it in by hand. */
+typedef struct {
+    stand_cell origin;    /* the lowest cell */
+    stand_extent chunks;  /* sections along each axis */
+    stand_extent size;    /* cells along each axis */
+    uint64_t generation;  /* changes so far */
+    uint64_t solid;       /* occupied cells */
+} stand_volume;
+
+typedef struct {
+    uint32_t code;
+    stand_volume volume;  /* all 0 where the opening is refused */
+} stand_opened;
+
+typedef struct {
+    uint32_t code;
+    uint64_t changed;     /* cells that took another finish */
+    stand_volume volume;  /* the header after the edit; the one given where it is refused */
+} stand_edited;
+
+typedef struct {
+    uint32_t code;
+    uint64_t value;
+} stand_number;
+
+typedef struct {
+    uint32_t code;
+    stand_cell cell;
+} stand_place;
+
+typedef struct {
+    uint32_t code;
+    stand_extent extent;
+} stand_span;
+
+typedef struct {
+    uint32_t code;
+    uint32_t given;  /* 1: a section; 0: the walk is over */
+    uint64_t chunk;
+    uint64_t next;   /* for the next step */
+} stand_chunk_given;
+
+typedef struct {
+    uint32_t code;
+    uint32_t given;  /* 1: a cell; 0: the walk is over */
+    stand_cell cell;
+    uint32_t finish;
+    uint64_t next;   /* for the next step */
+} stand_solid_given;
+
+/* A slice of a section: the slots of one side at one depth. Slot (u, v) is mask[v * width + u], where u
+   counts along the side's first axis and v along its second. */
+typedef struct {
+    stand_cell cell;  /* the lowest cell */
+    uint32_t side;
+    uint64_t width;   /* slots along first */
+    uint64_t height;  /* slots along second */
+} stand_slice;
+
+typedef struct {
+    uint32_t code;
+    stand_slice slice;
+} stand_sliced;
+
+typedef struct {
+    uint32_t code;
+    uint32_t given;       /* 1: a panel; 0: no slot is left */
+    stand_cell cell;      /* the panel's lowest cell */
+    uint32_t side;
+    uint32_t finish;
+    stand_extent extent;  /* cells along each axis: 1 along the side's normal */
+    uint64_t next;        /* for the next claim */
+} stand_panel_given;
+
+/* ---- opening and editing: these write the five lists ---- */
+
+/* Opens a stand of `size` cells from `origin` on, all empty. A size below 1 counts as 1. The lists may hold
+   anything before; all entries are 0 after. Refused: 1, 2, 4. For each axis there are size / 16 sections,
+   rounded up; the lists need as many entries as their product says. */
+stand_opened stand_open(stand_cell origin, stand_extent size,
+                        uint16_t *cells, size_t cells_count,
+                        uint64_t *hashes, size_t hashes_count,
+                        uint32_t *versions, size_t versions_count,
+                        uint32_t *log, size_t log_count,
+                        uint64_t *last, size_t last_count);
+
+/* Gives a cell a finish, 0 to empty it. `changed` is 1, or 0 where the cell has that finish already, and
+   then nothing is written. Refused: 3, 4, 5, 6. */
+stand_edited stand_set(stand_volume volume,
+                       uint16_t *cells, size_t cells_count,
+                       uint64_t *hashes, size_t hashes_count,
+                       uint32_t *versions, size_t versions_count,
+                       uint32_t *log, size_t log_count,
+                       uint64_t *last, size_t last_count,
+                       stand_cell cell, uint16_t finish);
+
+/* Gives every cell of a box a finish. `from` and `to` are any two opposite corners, both included. Each
+   corner is first moved to the nearest cell of the stand, so a box wholly outside fills border cells.
+   Refused: 3, 4, 6. */
+stand_edited stand_fill(stand_volume volume,
+                        uint16_t *cells, size_t cells_count,
+                        uint64_t *hashes, size_t hashes_count,
+                        uint32_t *versions, size_t versions_count,
+                        uint32_t *log, size_t log_count,
+                        uint64_t *last, size_t last_count,
+                        stand_cell from, stand_cell to, uint16_t finish);
+
+/* ---- reading: these write nothing; each is refused by 3 for a bad header, by 4 for a list's length ---- */
+
+/* The lowest cell. */
+stand_place stand_origin(stand_volume volume);
+
+/* The highest cell. */
+stand_place stand_max(stand_volume volume);
+
+/* The cell of the stand that is nearest to `cell`. */
+stand_place stand_clamp(stand_volume volume, stand_cell cell);
+
+/* The lowest cell of a section. Refused also: 7. */
+stand_place stand_chunk_origin(stand_volume volume, size_t chunk);
+
+/* Sections along each axis. */
+stand_span stand_chunks(stand_volume volume);
+
+/* Cells along each axis. */
+stand_span stand_size(stand_volume volume);
+
+/* How many sections there are. */
+stand_number stand_chunk_count(stand_volume volume);
+
+/* How many cells are occupied. */
+stand_number stand_solid_count(stand_volume volume);
+
+/* How many changes there were. */
+stand_number stand_generation(stand_volume volume);
+
+/* 1 for a cell inside the stand, 0 for one outside. */
+stand_number stand_contains(stand_volume volume, stand_cell cell);
+
+/* 1 for an occupied cell, 0 for an empty one and for one outside. */
+stand_number stand_is_solid(stand_volume volume, const uint16_t *cells, size_t cells_count, stand_cell cell);
+
+/* The finish of a cell, 0 for empty. Refused also: 5. */
+stand_number stand_get(stand_volume volume, const uint16_t *cells, size_t cells_count, stand_cell cell);
+
+/* The section of a cell. Refused also: 5. */
+stand_number stand_chunk_of(stand_volume volume, stand_cell cell);
+
+/* The hash of a section's cells. Refused also: 7. */
+stand_number stand_chunk_hash(stand_volume volume, const uint64_t *hashes, size_t hashes_count, size_t chunk);
+
+/* The version of a section: its changes, modulo 2^32. Refused also: 7. */
+stand_number stand_chunk_version(stand_volume volume, const uint32_t *versions, size_t versions_count, size_t chunk);
+
+/* One number over origin, sizes and all hashes: two stands with the same cells have the same one. */
+stand_number stand_digest(stand_volume volume, const uint64_t *hashes, size_t hashes_count);
+
+/* How many faces a panel of these extents has: their product. Refused: 13 alone. */
+stand_number stand_merged(stand_extent extent);
+
+/* ---- walks: these write nothing ---- */
+
+/* Whether the sections changed since a mark can be told; a mark is a generation that the stand had. The
+   value is `next` of the first step: the mark. Refused: 3, 4, 8, 9; after 9 take all sections as changed. */
+stand_number stand_changed_since(stand_volume volume,
+                                 const uint32_t *log, size_t log_count,
+                                 const uint64_t *last, size_t last_count, uint64_t mark);
+
+/* The next section changed since, each given once. Start with `next` = the mark, go on with the answer's
+   `next` until `given` is 0. Refused: 3, 4, 8, 9. */
+stand_chunk_given stand_changed_step(stand_volume volume,
+                                     const uint32_t *log, size_t log_count,
+                                     const uint64_t *last, size_t last_count, uint64_t next);
+
+/* The next occupied cell, section by section. Start with `next` = 0, go on with the answer's `next` until
+   `given` is 0. Refused: 3, 4. */
+stand_solid_given stand_solid_step(stand_volume volume, const uint16_t *cells, size_t cells_count, size_t next);
+
+/* ---- panels: these write the mask, and the list ---- */
+
+/* The panels of the whole stand, merged across sections. The mask is work space of any contents. It needs
+   as many slots as the largest side of the stand has cells; accepted or refused by 11, that many first
+   slots are 0 after. Each panel is eight numbers in the list, from its start on:
+       x, y, z of the lowest cell; side; finish; cells along x, y, z
+   and the numbers after the last panel stay as they were. The value is the panels written.
+   Refused: 100, 3, 4, 10, 11. */
+stand_number stand_faces(stand_volume volume, const uint16_t *cells, size_t cells_count, uint32_t rule,
+                         uint16_t *mask, size_t mask_count, int32_t *list, size_t list_count);
+
+/* The panels of one section: none reaches past it. A mask of 256 slots is always enough, and a list of
+   196,608 numbers. Refused: 100, 3, 4, 7, 10, 11. */
+stand_number stand_chunk_faces(stand_volume volume, const uint16_t *cells, size_t cells_count, size_t chunk,
+                               uint32_t rule, uint16_t *mask, size_t mask_count,
+                               int32_t *list, size_t list_count);
+
+/* Lays the visible finishes of one side of a section, `slice` cells up along the side's normal, into the
+   mask: 0 where no face is visible. The mask needs the slots that stand_chunk_faces needs; those beyond
+   the slice's are 0 after. Past the section's depth the slice has no slots. Refused: 100, 3, 4, 7, 10. */
+stand_sliced stand_chunk_slice(stand_volume volume, const uint16_t *cells, size_t cells_count, size_t chunk,
+                               uint32_t side, size_t slice, uint32_t rule,
+                               uint16_t *mask, size_t mask_count);
+
+/* Takes the next panel of a slice out of a mask: its slots become 0. Start with `from` = 0, go on with the
+   answer's `next` until `given` is 0. A slice with more slots than the mask gives none. Refused: 100. */
+stand_panel_given stand_claim(stand_slice slice, uint16_t *mask, size_t mask_count, size_t from);
+
+#ifdef __cplusplus
+}
+#endif
+
+#endif
