@@ -1,4 +1,11 @@
 // Opening, setting and filling.
+ghost use mathlib.Core.Path.{_≡_};
+ghost use Rattle.stand.specs.Answer.{numberAnswer, setAnswer, volumeAnswer};
+ghost use Rattle.stand.specs.Edit.{setCall};
+ghost use Rattle.stand.specs.Fill.{fillCall};
+ghost use Rattle.stand.specs.Opening.{openCall};
+ghost use Rattle.stand.specs.Storage.{stateOf, storageOf};
+ghost use Rattle.exports.specs.Edit.{editReply, noVolume, openReply, repliedEdit, repliedHeader, wroteOf};
 use stand::Cell;
 use stand::Voxel;
 use stand::volume::Extent;
@@ -22,7 +29,9 @@ pub struct Edited {
     pub volume: Volume,
 }
 
-fn no_volume() -> Volume {
+fn no_volume() -> Volume
+    ensures { λ r. ⌜ r ≡ noVolume ⌝ }
+{
     let origin = Cell { x: 0, y: 0, z: 0 };
     let none = Extent { x: 0, y: 0, z: 0 };
     Volume {
@@ -34,7 +43,9 @@ fn no_volume() -> Volume {
     }
 }
 
-fn open_reply(a: VolumeAnswer) -> Opened {
+fn open_reply(a: VolumeAnswer) -> Opened
+    ensures { λ r. ⌜ r ≡ repliedHeader (volumeAnswer a) ⌝ }
+{
     match a {
         VolumeAnswer::Is(volume) => Opened { code: 0, volume },
         VolumeAnswer::Refused(code) => {
@@ -44,7 +55,9 @@ fn open_reply(a: VolumeAnswer) -> Opened {
     }
 }
 
-fn set_reply(a: SetAnswer, volume: Volume) -> Edited {
+fn set_reply(a: SetAnswer, volume: Volume) -> Edited
+    ensures { λ r. ⌜ r ≡ repliedEdit (setAnswer a) volume ⌝ }
+{
     match a {
         SetAnswer::Changed => Edited {
             code: 0,
@@ -64,7 +77,9 @@ fn set_reply(a: SetAnswer, volume: Volume) -> Edited {
     }
 }
 
-fn fill_reply(a: NumberAnswer, volume: Volume) -> Edited {
+fn fill_reply(a: NumberAnswer, volume: Volume) -> Edited
+    ensures { λ r. ⌜ r ≡ repliedEdit (numberAnswer a) volume ⌝ }
+{
     match a {
         NumberAnswer::Is(changed) => Edited {
             code: 0,
@@ -88,7 +103,9 @@ pub extern "C" fn stand_open(
     versions: &mut [u32],
     log: &mut [u32],
     last: &mut [u64],
-) -> Opened {
+) -> Opened
+    ensures { λ r. ⌜ wroteOf r (storageOf (now (cells .exit)) (now (hashes .exit)) (now (versions .exit)) (now (log .exit)) (now (last .exit))) ≡ openReply (openCall (storageOf (now (cells .entry)) (now (hashes .entry)) (now (versions .entry)) (now (log .entry)) (now (last .entry))) origin size) ⌝ }
+{
     open_reply(Volume::new(origin, size, cells, hashes, versions, log, last))
 }
 
@@ -102,7 +119,9 @@ pub extern "C" fn stand_set(
     last: &mut [u64],
     cell: Cell,
     finish: u16,
-) -> Edited {
+) -> Edited
+    ensures { λ r. ⌜ wroteOf r (storageOf (now (cells .exit)) (now (hashes .exit)) (now (versions .exit)) (now (log .exit)) (now (last .exit))) ≡ editReply (setCall (stateOf volume (now (cells .entry)) (now (hashes .entry)) (now (versions .entry)) (now (log .entry)) (now (last .entry))) cell finish) ⌝ }
+{
     let done = volume.set(cells, hashes, versions, log, last, cell, Voxel(finish));
     let answer = done.answer;
     let after = done.volume;
@@ -120,7 +139,9 @@ pub extern "C" fn stand_fill(
     from: Cell,
     to: Cell,
     finish: u16,
-) -> Edited {
+) -> Edited
+    ensures { λ r. ⌜ wroteOf r (storageOf (now (cells .exit)) (now (hashes .exit)) (now (versions .exit)) (now (log .exit)) (now (last .exit))) ≡ editReply (fillCall (stateOf volume (now (cells .entry)) (now (hashes .entry)) (now (versions .entry)) (now (log .entry)) (now (last .entry))) from to finish) ⌝ }
+{
     let done = volume.fill(cells, hashes, versions, log, last, from, to, Voxel(finish));
     let answer = done.answer;
     let after = done.volume;

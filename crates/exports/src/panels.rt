@@ -1,4 +1,9 @@
 // Meshing. The outside rule and the side come as numbers; others than those named are refused by BAD_ARGUMENT.
+ghost use mathlib.Core.Path.{_≡_};
+ghost use Rattle.mesh.specs.Faces.{facesAnswer};
+ghost use Rattle.mesh.specs.Lay.{sliceAnswer};
+ghost use Rattle.mesh.specs.Slice.{claimedAnswer};
+ghost use Rattle.exports.specs.Panels.{chunkFacesReply, chunkSliceReply, claimReplyOf, facesReply, meshReplyOf, noPanel, noSlice, repliedClaim, repliedPanels, repliedSlice, ruleAnswer, ruleAt, sideClaimReply, sideSlice, sliceReplyOf};
 use crate::reply::Number;
 use mesh::Beyond;
 use mesh::faces::FacesAnswer;
@@ -51,7 +56,9 @@ enum RuleAnswer {
 }
 
 // 0: outside hides a face; 1: outside shows it.
-fn rule_at(rule: u32) -> RuleAnswer {
+fn rule_at(rule: u32) -> RuleAnswer
+    ensures { λ r. ⌜ ruleAnswer r ≡ ruleAt rule ⌝ }
+{
     if rule == 0 {
         return RuleAnswer::Is(Beyond::Solid);
     }
@@ -61,7 +68,9 @@ fn rule_at(rule: u32) -> RuleAnswer {
     RuleAnswer::None
 }
 
-fn faces_reply(a: FacesAnswer) -> Number {
+fn faces_reply(a: FacesAnswer) -> Number
+    ensures { λ r. ⌜ r ≡ repliedPanels (facesAnswer a) ⌝ }
+{
     match a {
         FacesAnswer::Is(value) => Number { code: 0, value },
         FacesAnswer::TooShort(value) => Number {
@@ -72,7 +81,9 @@ fn faces_reply(a: FacesAnswer) -> Number {
     }
 }
 
-fn side_slice(s: Slice) -> SideSlice {
+fn side_slice(s: Slice) -> SideSlice
+    ensures { λ r. ⌜ r ≡ sideSlice s ⌝ }
+{
     let cell = s.cell;
     let face = s.face;
     SideSlice {
@@ -83,7 +94,9 @@ fn side_slice(s: Slice) -> SideSlice {
     }
 }
 
-fn no_slice(code: u32) -> Sliced {
+fn no_slice(code: u32) -> Sliced
+    ensures { λ r. ⌜ r ≡ noSlice code ⌝ }
+{
     let cell = Cell { x: 0, y: 0, z: 0 };
     let slice = SideSlice {
         cell,
@@ -94,7 +107,9 @@ fn no_slice(code: u32) -> Sliced {
     Sliced { code, slice }
 }
 
-fn slice_reply(a: SliceAnswer) -> Sliced {
+fn slice_reply(a: SliceAnswer) -> Sliced
+    ensures { λ r. ⌜ r ≡ repliedSlice (sliceAnswer a) ⌝ }
+{
     match a {
         SliceAnswer::Is(s) => {
             let slice = side_slice(s);
@@ -104,7 +119,9 @@ fn slice_reply(a: SliceAnswer) -> Sliced {
     }
 }
 
-fn no_panel(code: u32) -> PanelGiven {
+fn no_panel(code: u32) -> PanelGiven
+    ensures { λ r. ⌜ r ≡ noPanel code ⌝ }
+{
     let cell = Cell { x: 0, y: 0, z: 0 };
     let extent = Extent { x: 0, y: 0, z: 0 };
     PanelGiven {
@@ -118,7 +135,9 @@ fn no_panel(code: u32) -> PanelGiven {
     }
 }
 
-fn claim_reply(c: Claimed) -> PanelGiven {
+fn claim_reply(c: Claimed) -> PanelGiven
+    ensures { λ r. ⌜ r ≡ repliedClaim (claimedAnswer c) ⌝ }
+{
     match c {
         Claimed::Quad(q, next) => {
             let cell = q.cell;
@@ -146,7 +165,9 @@ pub extern "C" fn stand_faces(
     rule: u32,
     mask: &mut [u16],
     list: &mut [i32],
-) -> Number {
+) -> Number
+    ensures { λ r. ⌜ meshReplyOf r (now (mask .exit)) (now (list .exit)) ≡ facesReply volume (now (cells .entry)) rule (now (mask .entry)) (now (list .entry)) ⌝ }
+{
     let RuleAnswer::Is(beyond) = rule_at(rule) else {
         return Number {
             code: BAD_ARGUMENT,
@@ -164,7 +185,9 @@ pub extern "C" fn stand_chunk_faces(
     rule: u32,
     mask: &mut [u16],
     list: &mut [i32],
-) -> Number {
+) -> Number
+    ensures { λ r. ⌜ meshReplyOf r (now (mask .exit)) (now (list .exit)) ≡ chunkFacesReply volume (now (cells .entry)) chunk rule (now (mask .entry)) (now (list .entry)) ⌝ }
+{
     let RuleAnswer::Is(beyond) = rule_at(rule) else {
         return Number {
             code: BAD_ARGUMENT,
@@ -183,7 +206,9 @@ pub extern "C" fn stand_chunk_slice(
     slice: usize,
     rule: u32,
     mask: &mut [u16],
-) -> Sliced {
+) -> Sliced
+    ensures { λ r. ⌜ sliceReplyOf r (now (mask .exit)) ≡ chunkSliceReply volume (now (cells .entry)) chunk side slice rule (now (mask .entry)) ⌝ }
+{
     let FaceAnswer::Is(face) = Face::at(side as usize) else {
         return no_slice(BAD_ARGUMENT);
     };
@@ -194,7 +219,9 @@ pub extern "C" fn stand_chunk_slice(
 }
 
 #[no_mangle]
-pub extern "C" fn stand_claim(slice: SideSlice, mask: &mut [u16], from: usize) -> PanelGiven {
+pub extern "C" fn stand_claim(slice: SideSlice, mask: &mut [u16], from: usize) -> PanelGiven
+    ensures { λ r. ⌜ claimReplyOf r (now (mask .exit)) ≡ sideClaimReply slice (now (mask .entry)) from ⌝ }
+{
     let FaceAnswer::Is(face) = Face::at(slice.side as usize) else {
         return no_panel(BAD_ARGUMENT);
     };

@@ -1,4 +1,7 @@
 // Answers as C gets them: a code, 0 for accepted, and the value; a refused answer has 0 in all else.
+ghost use mathlib.Core.Path.{_≡_};
+ghost use Rattle.stand.specs.Answer.{boolAnswer, cellAnswer, extentAnswer, numberAnswer, voxelAnswer};
+ghost use Rattle.exports.specs.Reply.{replied, repliedCell, repliedExtent, repliedFlag};
 use stand::Cell;
 use stand::volume::Extent;
 use stand::volume::Volume;
@@ -29,14 +32,18 @@ pub struct Span {
     pub extent: Extent,
 }
 
-pub(crate) fn number_reply(a: NumberAnswer) -> Number {
+pub(crate) fn number_reply(a: NumberAnswer) -> Number
+    ensures { λ r. ⌜ r ≡ replied (numberAnswer a) ⌝ }
+{
     match a {
         NumberAnswer::Is(value) => Number { code: 0, value },
         NumberAnswer::Refused(code) => Number { code, value: 0 },
     }
 }
 
-pub(crate) fn bool_reply(a: BoolAnswer) -> Number {
+pub(crate) fn bool_reply(a: BoolAnswer) -> Number
+    ensures { λ r. ⌜ r ≡ repliedFlag (boolAnswer a) ⌝ }
+{
     match a {
         BoolAnswer::Is(b) => Number {
             code: 0,
@@ -46,7 +53,9 @@ pub(crate) fn bool_reply(a: BoolAnswer) -> Number {
     }
 }
 
-pub(crate) fn voxel_reply(a: VoxelAnswer) -> Number {
+pub(crate) fn voxel_reply(a: VoxelAnswer) -> Number
+    ensures { λ r. ⌜ r ≡ replied (voxelAnswer a) ⌝ }
+{
     match a {
         VoxelAnswer::Is(v) => Number {
             code: 0,
@@ -56,7 +65,9 @@ pub(crate) fn voxel_reply(a: VoxelAnswer) -> Number {
     }
 }
 
-pub(crate) fn cell_reply(a: CellAnswer) -> Place {
+pub(crate) fn cell_reply(a: CellAnswer) -> Place
+    ensures { λ r. ⌜ r ≡ repliedCell (cellAnswer a) ⌝ }
+{
     match a {
         CellAnswer::Is(cell) => Place { code: 0, cell },
         CellAnswer::Refused(code) => Place {
@@ -66,7 +77,9 @@ pub(crate) fn cell_reply(a: CellAnswer) -> Place {
     }
 }
 
-pub(crate) fn extent_reply(a: ExtentAnswer) -> Span {
+pub(crate) fn extent_reply(a: ExtentAnswer) -> Span
+    ensures { λ r. ⌜ r ≡ repliedExtent (extentAnswer a) ⌝ }
+{
     match a {
         ExtentAnswer::Is(extent) => Span { code: 0, extent },
         ExtentAnswer::Refused(code) => Span {

@@ -1,4 +1,9 @@
 // The walks: over the chunks changed since a mark, and over the occupied cells.
+ghost use mathlib.Core.Path.{_≡_};
+ghost use Rattle.stand.specs.Feed.{changedSince, changedStep, chunkStep};
+ghost use Rattle.stand.specs.Solids.{solidStep, solidsCall};
+ghost use Rattle.exports.specs.Reply.{replied};
+ghost use Rattle.exports.specs.Walk.{noChunk, noSolid, repliedChunk, repliedSolid};
 use crate::reply::Number;
 use crate::reply::number_reply;
 use stand::Cell;
@@ -26,7 +31,9 @@ pub struct SolidGiven {
     pub next: u64,
 }
 
-fn no_chunk(code: u32) -> ChunkGiven {
+fn no_chunk(code: u32) -> ChunkGiven
+    ensures { λ r. ⌜ r ≡ noChunk code ⌝ }
+{
     ChunkGiven {
         code,
         given: 0,
@@ -35,7 +42,9 @@ fn no_chunk(code: u32) -> ChunkGiven {
     }
 }
 
-fn chunk_reply(s: ChunkStep) -> ChunkGiven {
+fn chunk_reply(s: ChunkStep) -> ChunkGiven
+    ensures { λ r. ⌜ r ≡ repliedChunk (chunkStep s) ⌝ }
+{
     match s {
         ChunkStep::Chunk(chunk, next) => ChunkGiven {
             code: 0,
@@ -48,7 +57,9 @@ fn chunk_reply(s: ChunkStep) -> ChunkGiven {
     }
 }
 
-fn no_solid(code: u32) -> SolidGiven {
+fn no_solid(code: u32) -> SolidGiven
+    ensures { λ r. ⌜ r ≡ noSolid code ⌝ }
+{
     let cell = Cell { x: 0, y: 0, z: 0 };
     SolidGiven {
         code,
@@ -59,7 +70,9 @@ fn no_solid(code: u32) -> SolidGiven {
     }
 }
 
-fn solid_reply(s: SolidStep) -> SolidGiven {
+fn solid_reply(s: SolidStep) -> SolidGiven
+    ensures { λ r. ⌜ r ≡ repliedSolid (solidStep s) ⌝ }
+{
     match s {
         SolidStep::Cell(cell, voxel, on) => SolidGiven {
             code: 0,
@@ -79,7 +92,9 @@ pub extern "C" fn stand_changed_since(
     log: &[u32],
     last: &[u64],
     mark: u64,
-) -> Number {
+) -> Number
+    ensures { λ r. ⌜ r ≡ replied (changedSince volume (now (log .entry)) (now (last .entry)) mark) ⌝ }
+{
     number_reply(volume.changed_since(log, last, mark))
 }
 
@@ -89,12 +104,16 @@ pub extern "C" fn stand_changed_step(
     log: &[u32],
     last: &[u64],
     next: u64,
-) -> ChunkGiven {
+) -> ChunkGiven
+    ensures { λ r. ⌜ r ≡ repliedChunk (changedStep volume (now (log .entry)) (now (last .entry)) next) ⌝ }
+{
     chunk_reply(volume.changed_step(log, last, next))
 }
 
 #[no_mangle]
-pub extern "C" fn stand_solid_step(volume: Volume, cells: &[u16], next: usize) -> SolidGiven {
+pub extern "C" fn stand_solid_step(volume: Volume, cells: &[u16], next: usize) -> SolidGiven
+    ensures { λ r. ⌜ r ≡ repliedSolid (solidsCall volume (now (cells .entry)) next) ⌝ }
+{
     let walk = Solids { next };
     solid_reply(walk.step(volume, cells))
 }

@@ -1,0 +1,3 @@
+-- Laws and proofs of `exports`.
+pub mod Named
+pub mod Written

@@ -1,0 +1,36 @@
+-- From what a call of the stand or of meshing comes to, to what its export comes to.
+use mathlib.Core.Path.{_≡_, _∙_, ap}
+use mathlib.Core.List.{List}
+use mathlib.Core.Option.{Option}
+use Prim.Native.Nat.{ℕ}
+use lib.IntN.{ℤ}
+use Rattle.stand.specs.Opening.{Opening, openingOf}
+use Rattle.stand.specs.Refusal.{Answer}
+use Rattle.stand.specs.Storage.{Outcome, State, Storage, outcomeOf, storage}
+use Rattle.stand.specs.declared.volume.Volume.{Volume}
+use Rattle.mesh.specs.Faces.{Meshed, Meshing, meshingOf}
+use Rattle.mesh.specs.Lay as L
+use Rattle.mesh.specs.Slice as C
+use Rattle.mesh.specs.declared.slice.Slice.{Slice}
+use Rattle.exports.specs.Edit.{editReply, openReply, repliedEdit, repliedHeader, wroteOf}
+use Rattle.exports.specs.Panels.{claimReply, claimReplyOf, meshReply, meshReplyOf, repliedClaim, repliedPanels, repliedSlice, sliceReply, sliceReplyOf}
+use Rattle.exports.specs.declared.edit.Edited.{Edited}
+use Rattle.exports.specs.declared.edit.Opened.{Opened}
+use Rattle.exports.specs.declared.panels.PanelGiven.{PanelGiven}
+use Rattle.exports.specs.declared.panels.Sliced.{Sliced}
+use Rattle.exports.specs.declared.reply.Number.{Number}
+
+pub opened-so : {a : Answer Volume} {s : Storage} {o : Opening} {r : Opened} → openingOf a s ≡ o → r ≡ repliedHeader a → wroteOf r s ≡ openReply o
+opened-so {s = s} e f = ap (λ r. wroteOf r s) f ∙ ap openReply e
+
+pub edited-so : {a : Answer ℕ} {s : State} {o : Outcome ℕ} {r : Edited} → outcomeOf a s ≡ o → r ≡ repliedEdit a (s .volume) → wroteOf r (storage s) ≡ editReply o
+edited-so {s = s} e f = ap (λ r. wroteOf r (storage s)) f ∙ ap editReply e
+
+pub meshed-so : {a : Meshed} {m : List ℕ} {l : List ℤ} {o : Meshing} {r : Number} → meshingOf a m l ≡ o → r ≡ repliedPanels a → meshReplyOf r m l ≡ meshReply o
+meshed-so {m = m} {l = l} e f = ap (λ r. meshReplyOf r m l) f ∙ ap meshReply e
+
+pub sliced-so : {a : Answer Slice} {m : List ℕ} {o : L.Sliced} {r : Sliced} → L.slicedOf a m ≡ o → r ≡ repliedSlice a → sliceReplyOf r m ≡ sliceReply o
+sliced-so {m = m} e f = ap (λ r. sliceReplyOf r m) f ∙ ap sliceReply e
+
+pub claimed-so : {a : Option C.Taken} {m : List ℕ} {o : C.Outcome} {r : PanelGiven} → C.outcomeOf a m ≡ o → r ≡ repliedClaim a → claimReplyOf r m ≡ claimReply o
+claimed-so {m = m} e f = ap (λ r. claimReplyOf r m) f ∙ ap claimReply e

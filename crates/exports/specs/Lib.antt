@@ -1,0 +1,5 @@
+-- The definitions that the contracts of `exports` cite.
+pub mod Edit
+pub mod Panels
+pub mod Reply
+pub mod Walk
