@@ -94,6 +94,7 @@ fn fill_reply(a: NumberAnswer, volume: Volume) -> Edited
     }
 }
 
+// Opens a stand. Rules out a code of 0 for a refused opening, and lists that are not zeroed.
 #[no_mangle]
 pub extern "C" fn stand_open(
     origin: Cell,
@@ -109,6 +110,7 @@ pub extern "C" fn stand_open(
     open_reply(Volume::new(origin, size, cells, hashes, versions, log, last))
 }
 
+// Gives a cell a finish. Rules out the old header for a change, and "changed" for an equal finish.
 #[no_mangle]
 pub extern "C" fn stand_set(
     volume: Volume,
@@ -128,6 +130,7 @@ pub extern "C" fn stand_set(
     set_reply(answer, after)
 }
 
+// Gives every cell of a box a finish. Rules out a count of the box instead of the cells changed, and another header than the last one.
 #[no_mangle]
 pub extern "C" fn stand_fill(
     volume: Volume,

@@ -158,6 +158,7 @@ fn claim_reply(c: Claimed) -> PanelGiven
     }
 }
 
+// The panels of the whole stand. Rules out rule 2 taken for one of the two, and a number of panels that is not the list's.
 #[no_mangle]
 pub extern "C" fn stand_faces(
     volume: Volume,
@@ -177,6 +178,7 @@ pub extern "C" fn stand_faces(
     faces_reply(faces(cells, volume, beyond, mask, list))
 }
 
+// The panels of a section. Rules out 0 panels needed for a list too short, and the other rule.
 #[no_mangle]
 pub extern "C" fn stand_chunk_faces(
     volume: Volume,
@@ -197,6 +199,7 @@ pub extern "C" fn stand_chunk_faces(
     faces_reply(chunk_faces(cells, volume, chunk, beyond, mask, list))
 }
 
+// Lays a slice of a section into a mask. Rules out side 6 taken for one of the six, and a mask that is written where the call is refused.
 #[no_mangle]
 pub extern "C" fn stand_chunk_slice(
     volume: Volume,
@@ -218,6 +221,7 @@ pub extern "C" fn stand_chunk_slice(
     slice_reply(chunk_slice(cells, volume, chunk, face, slice, beyond, mask))
 }
 
+// Takes a panel out of a mask. Rules out a panel that is kept in the mask, and one of another side.
 #[no_mangle]
 pub extern "C" fn stand_claim(slice: SideSlice, mask: &mut [u16], from: usize) -> PanelGiven
     ensures { λ r. ⌜ claimReplyOf r (now (mask .exit)) ≡ sideClaimReply slice (now (mask .entry)) from ⌝ }

@@ -86,6 +86,7 @@ fn solid_reply(s: SolidStep) -> SolidGiven
     }
 }
 
+// Where a walk from a mark starts. Rules out "too old" for every mark, and another start than the mark.
 #[no_mangle]
 pub extern "C" fn stand_changed_since(
     volume: Volume,
@@ -98,6 +99,7 @@ pub extern "C" fn stand_changed_since(
     number_reply(volume.changed_since(log, last, mark))
 }
 
+// The next changed section. Rules out an end before the first section, and the same section again.
 #[no_mangle]
 pub extern "C" fn stand_changed_step(
     volume: Volume,
@@ -110,6 +112,7 @@ pub extern "C" fn stand_changed_step(
     chunk_reply(volume.changed_step(log, last, next))
 }
 
+// The next occupied cell. Rules out an empty cell, and an end where one is left.
 #[no_mangle]
 pub extern "C" fn stand_solid_step(volume: Volume, cells: &[u16], next: usize) -> SolidGiven
     ensures { λ r. ⌜ r ≡ repliedSolid (solidsCall volume (now (cells .entry)) next) ⌝ }
