@@ -71,13 +71,18 @@ int main(void) {
     uint64_t mark = volume.generation;
     stand_edited done = stand_set(volume, STORAGE, (stand_cell){18, 0, 1}, 7);
     accepted("stand_set", done.code);
-    print_changes(done.volume, mark);
+    volume = done.volume;
+    print_changes(volume, mark);
 
-    stand_number digest = stand_digest(done.volume, hashes, SECTIONS);
+    /* the header where it is */
+    accepted("stand_set_lent", stand_set_lent(&volume, STORAGE, (stand_cell){0, 0, 1}, 7).code);
+    print_changes(volume, mark);
+
+    stand_number digest = stand_digest(volume, hashes, SECTIONS);
     accepted("stand_digest", digest.code);
-    printf("%" PRIu64 " cells, digest %016" PRIx64 "\n", done.volume.solid, digest.value);
+    printf("%" PRIu64 " cells, digest %016" PRIx64 "\n", volume.solid, digest.value);
 
-    done = stand_set(done.volume, STORAGE, (stand_cell){20, 0, 0}, 7);
-    printf("a cell outside: refused %" PRIu32 "\n", done.code);
+    stand_number outside = stand_set_lent(&volume, STORAGE, (stand_cell){20, 0, 0}, 7);
+    printf("a cell outside: refused %" PRIu32 "\n", outside.code);
     return 0;
 }

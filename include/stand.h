@@ -10,7 +10,7 @@
  * Lists. The caller owns all memory. Each list is a pointer followed by a count of entries. Nothing is kept
  * after a call, and nothing is allocated. A pointer must be aligned for its type and not null, even where
  * the count is 0. Lists of one call must not overlap, unless all of them are const. A list that is not
- * const may be written; the comment of a function says by which call and how. A stand of n sections
+ * const may be written; the comments below say how. A stand of n sections
  * (stand_chunk_count) has these lists, and each must have exactly this many entries:
  *
  *     cells      n * 4096   the finish of each cell
@@ -20,8 +20,8 @@
  *     last       n          the generation of each section's last change
  *
  * The header. stand_volume goes by value. A call that edits answers the header after it, which the next
- * call must be given: an older header does not fit the lists any more. Other calls leave header and lists
- * as they are, unless their comment says so.
+ * call must be given: an older header does not fit the lists any more. stand_set_lent alters the caller's
+ * header where it is instead.
  *
  * Answers. Each has a code: 0 for accepted, or the lowest number under which the call is refused. A refused
  * call writes nothing, and all else in its answer is 0, but for what STAND_SHORT_LIST says, and but for the
@@ -181,6 +181,16 @@ stand_edited stand_set(stand_volume volume,
                        uint32_t *log, size_t log_count,
                        uint64_t *last, size_t last_count,
                        stand_cell cell, uint16_t finish);
+
+/* The same over a header that is lent and altered where it is; the value is `changed`. The pointer is as
+   those of the lists, and must not overlap one. Refused: 3, 4, 5, 6, and then the header is as it was. */
+stand_number stand_set_lent(stand_volume *volume,
+                            uint16_t *cells, size_t cells_count,
+                            uint64_t *hashes, size_t hashes_count,
+                            uint32_t *versions, size_t versions_count,
+                            uint32_t *log, size_t log_count,
+                            uint64_t *last, size_t last_count,
+                            stand_cell cell, uint16_t finish);
 
 /* Gives every cell of a box a finish. `from` and `to` are any two opposite corners, both included. Each
    corner is first moved to the nearest cell of the stand, so a box wholly outside fills border cells.

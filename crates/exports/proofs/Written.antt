@@ -1,18 +1,18 @@
 -- From what a call of the stand or of meshing comes to, to what its export comes to.
-use mathlib.Core.Path.{_≡_, _∙_, ap}
+use mathlib.Core.Path.{_≡_, _∙_, ap, refl}
 use mathlib.Core.List.{List}
 use mathlib.Core.Option.{Option}
 use Prim.Native.Nat.{ℕ}
 use lib.IntN.{ℤ}
 use Rattle.stand.specs.Opening.{Opening, openingOf}
-use Rattle.stand.specs.Refusal.{Answer}
-use Rattle.stand.specs.Storage.{Outcome, State, Storage, outcomeOf, storage}
+use Rattle.stand.specs.Refusal.{Answer, gives, refused}
+use Rattle.stand.specs.Storage.{Outcome, State, Storage, joined, outcomeOf, storage}
 use Rattle.stand.specs.declared.volume.Volume.{Volume}
 use Rattle.mesh.specs.Faces.{Meshed, Meshing, meshingOf}
 use Rattle.mesh.specs.Lay as L
 use Rattle.mesh.specs.Slice as C
 use Rattle.mesh.specs.declared.slice.Slice.{Slice}
-use Rattle.exports.specs.Edit.{editReply, openReply, repliedEdit, repliedHeader, wroteOf}
+use Rattle.exports.specs.Edit.{Lent, Wrote, editReply, lentOf, lentReply, openReply, repliedEdit, repliedHeader, wroteOf}
 use Rattle.exports.specs.Panels.{claimReply, claimReplyOf, meshReply, meshReplyOf, repliedClaim, repliedPanels, repliedSlice, sliceReply, sliceReplyOf}
 use Rattle.exports.specs.declared.edit.Edited.{Edited}
 use Rattle.exports.specs.declared.edit.Opened.{Opened}
@@ -34,3 +34,19 @@ sliced-so {m = m} e f = ap (λ r. sliceReplyOf r m) f ∙ ap sliceReply e
 
 pub claimed-so : {a : Option C.Taken} {m : List ℕ} {o : C.Outcome} {r : PanelGiven} → C.outcomeOf a m ≡ o → r ≡ repliedClaim a → claimReplyOf r m ≡ claimReply o
 claimed-so {m = m} e f = ap (λ r. claimReplyOf r m) f ∙ ap claimReply e
+
+-- ---- over a header that is lent
+
+-- the number in C's struct of an edit
+abbrev pub numberIn : Edited → Number
+numberIn e = record { code = e .code; value = e .changed }
+
+abbrev parted : Wrote Edited → Lent
+parted w = lentOf (numberIn (w .reply)) (joined (w .reply .volume) (w .storage))
+
+parts : (a : Answer ℕ) (s : State) → parted (editReply (outcomeOf a s)) ≡ lentReply (outcomeOf a s)
+parts (gives n) s = refl
+parts (refused c) s = refl
+
+pub lent-so : {r : Edited} {s : Storage} (o : Outcome ℕ) → wroteOf r s ≡ editReply o → lentOf (numberIn r) (joined (r .volume) s) ≡ lentReply o
+lent-so o e = ap parted e ∙ parts (o .answer) (o .state)

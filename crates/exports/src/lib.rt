@@ -1,5 +1,6 @@
 // The C interface: each call of the stand and of its meshing, with structs and numbers that C knows.
 pub mod edit;
+pub mod lent;
 pub mod panels;
 pub mod read;
 pub mod reply;
