@@ -8,9 +8,9 @@ use Rattle.stand.specs.declared.FaceAnswer.{FaceAnswer}
 use Rattle.stand.specs.declared.FaceAnswer.the-variants as A
 use Rattle.mesh.specs.Visible.{emptyBeyond}
 use Rattle.mesh.specs.declared.Beyond.{Beyond}
-use Rattle.exports.specs.Panels.{named, ruleAnswer}
-use Rattle.exports.specs.declared.panels.RuleAnswer.{RuleAnswer}
-use Rattle.exports.specs.declared.panels.RuleAnswer.the-variants as R
+use Rattle.exports.specs.Rule.{named, ruleAnswer}
+use Rattle.exports.specs.declared.rule.RuleAnswer.{RuleAnswer}
+use Rattle.exports.specs.declared.rule.RuleAnswer.the-variants as R
 
 pub named-some : {A B : Type 0} {a : A} {o : Option A} (f : A → B) (b : B) {r : B} → some a ≡ o → r ≡ f a → r ≡ named o f b
 named-some f b e h = h ∙ ap (λ o. named o f b) e

@@ -13,11 +13,12 @@ use Rattle.mesh.specs.Lay as L
 use Rattle.mesh.specs.Slice as C
 use Rattle.mesh.specs.declared.slice.Slice.{Slice}
 use Rattle.exports.specs.Edit.{Lent, Wrote, editReply, lentOf, lentReply, openReply, repliedEdit, repliedHeader, wroteOf}
-use Rattle.exports.specs.Panels.{claimReply, claimReplyOf, meshReply, meshReplyOf, repliedClaim, repliedPanels, repliedSlice, sliceReply, sliceReplyOf}
+use Rattle.exports.specs.Panels.{meshReply, meshReplyOf, repliedPanels}
+use Rattle.exports.specs.Slices.{claimReply, claimReplyOf, repliedClaim, repliedSlice, sliceReply, sliceReplyOf}
 use Rattle.exports.specs.declared.edit.Edited.{Edited}
 use Rattle.exports.specs.declared.edit.Opened.{Opened}
-use Rattle.exports.specs.declared.panels.PanelGiven.{PanelGiven}
-use Rattle.exports.specs.declared.panels.Sliced.{Sliced}
+use Rattle.exports.specs.declared.slices.PanelGiven.{PanelGiven}
+use Rattle.exports.specs.declared.slices.Sliced.{Sliced}
 use Rattle.exports.specs.declared.reply.Number.{Number}
 
 pub opened-so : {a : Answer Volume} {s : Storage} {o : Opening} {r : Opened} → openingOf a s ≡ o → r ≡ repliedHeader a → wroteOf r s ≡ openReply o

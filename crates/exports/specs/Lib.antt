@@ -2,4 +2,6 @@
 pub mod Edit
 pub mod Panels
 pub mod Reply
+pub mod Rule
+pub mod Slices
 pub mod Walk

@@ -2,7 +2,6 @@
 use Prim.Native.Nat.{ℕ}
 use mathlib.Core.Bool.{Bool, cond}
 use lib.IntN.{pos}
-use Rattle.stand.specs.Cells.{cellOf}
 use Rattle.stand.specs.Refusal.{Answer, gives, refused}
 use Rattle.stand.specs.declared.Cell.{Cell}
 use Rattle.stand.specs.declared.volume.Extent.{Extent}

@@ -4,4 +4,6 @@ pub mod lent;
 pub mod panels;
 pub mod read;
 pub mod reply;
+pub mod rule;
+pub mod slices;
 pub mod walk;

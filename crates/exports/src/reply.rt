@@ -4,7 +4,6 @@ ghost use Rattle.stand.specs.Answer.{boolAnswer, cellAnswer, extentAnswer, numb
 ghost use Rattle.exports.specs.Reply.{replied, repliedCell, repliedExtent, repliedFlag};
 use stand::Cell;
 use stand::volume::Extent;
-use stand::volume::Volume;
 use stand::volume::answer::BoolAnswer;
 use stand::volume::answer::CellAnswer;
 use stand::volume::answer::ExtentAnswer;

@@ -1,7 +1,7 @@
--- `exports::panels::side_slice` meets its contract.
+-- `exports::slices::side_slice` meets its contract.
 use borrow.Author.Needs.{needs}
-use Rattle.exports.proofs.panels.side_slice.Statement.{statement}
-use Rattle.exports.proofs.panels.side_slice.Tie as tie
+use Rattle.exports.proofs.slices.side_slice.Statement.{statement}
+use Rattle.exports.proofs.slices.side_slice.Tie as tie
 
 number-requires : tie.Need-number-requires
 number-requires c κs = search needs

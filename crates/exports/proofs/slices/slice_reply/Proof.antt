@@ -1,7 +1,7 @@
--- `exports::panels::slice_reply` meets its contract.
+-- `exports::slices::slice_reply` meets its contract.
 use borrow.Author.Needs.{needs}
-use Rattle.exports.proofs.panels.slice_reply.Statement.{statement}
-use Rattle.exports.proofs.panels.slice_reply.Tie as tie
+use Rattle.exports.proofs.slices.slice_reply.Statement.{statement}
+use Rattle.exports.proofs.slices.slice_reply.Tie as tie
 
 enum-known-a : tie.Need-enum-known-a
 enum-known-a c = search needs

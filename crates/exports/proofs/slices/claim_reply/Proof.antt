@@ -1,7 +1,7 @@
--- `exports::panels::claim_reply` meets its contract.
+-- `exports::slices::claim_reply` meets its contract.
 use borrow.Author.Needs.{needs}
-use Rattle.exports.proofs.panels.claim_reply.Statement.{statement}
-use Rattle.exports.proofs.panels.claim_reply.Tie as tie
+use Rattle.exports.proofs.slices.claim_reply.Statement.{statement}
+use Rattle.exports.proofs.slices.claim_reply.Tie as tie
 
 enum-known-c : tie.Need-enum-known-c
 enum-known-c c = search needs

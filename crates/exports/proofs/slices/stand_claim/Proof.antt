@@ -1,12 +1,12 @@
--- `exports::panels::stand_claim` meets its contract.
+-- `exports::slices::stand_claim` meets its contract.
 use mathlib.Core.Path.{_∙_, ap}
 use denote.Ref.{now}
-use Rattle.exports.specs.Panels.{sideClaimReply, claimReplyOf}
+use Rattle.exports.specs.Slices.{sideClaimReply, claimReplyOf}
 use Rattle.exports.proofs.Named.{named-none, named-some, side-is, side-none}
 use Rattle.exports.proofs.Written.{claimed-so}
 use borrow.Author.Needs.{needs}
-use Rattle.exports.proofs.panels.stand_claim.Statement.{statement}
-use Rattle.exports.proofs.panels.stand_claim.Tie as tie
+use Rattle.exports.proofs.slices.stand_claim.Statement.{statement}
+use Rattle.exports.proofs.slices.stand_claim.Tie as tie
 
 cast-at : tie.Need-cast-at
 cast-at c = search needs

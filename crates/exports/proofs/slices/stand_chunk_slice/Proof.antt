@@ -1,12 +1,12 @@
--- `exports::panels::stand_chunk_slice` meets its contract.
+-- `exports::slices::stand_chunk_slice` meets its contract.
 use mathlib.Core.Path.{_∙_, ap}
 use denote.Ref.{now}
-use Rattle.exports.specs.Panels.{chunkSliceReply, sliceReplyOf}
+use Rattle.exports.specs.Slices.{chunkSliceReply, sliceReplyOf}
 use Rattle.exports.proofs.Named.{named-none, named-some, rule-is, rule-none, side-is, side-none}
 use Rattle.exports.proofs.Written.{sliced-so}
 use borrow.Author.Needs.{needs}
-use Rattle.exports.proofs.panels.stand_chunk_slice.Statement.{statement}
-use Rattle.exports.proofs.panels.stand_chunk_slice.Tie as tie
+use Rattle.exports.proofs.slices.stand_chunk_slice.Statement.{statement}
+use Rattle.exports.proofs.slices.stand_chunk_slice.Tie as tie
 
 at-requires : tie.Need-at-requires
 at-requires c κs = search needs

@@ -1,8 +1,7 @@
--- `exports::panels::rule_at` meets its contract.
+-- `exports::rule::rule_at` meets its contract.
 use borrow.Author.Tests.{eq-eqb, ne-eqb}
-use borrow.Author.Needs.{needs}
-use Rattle.exports.proofs.panels.rule_at.Statement.{statement}
-use Rattle.exports.proofs.panels.rule_at.Tie as tie
+use Rattle.exports.proofs.rule.rule_at.Statement.{statement}
+use Rattle.exports.proofs.rule.rule_at.Tie as tie
 
 returns : tie.Need-returns
 returns c = rw (eq-eqb _ _ (c .if1 .taken))
