@@ -1,0 +1,169 @@
+//! Document 01's refusals, worked out in exact numbers apart from both sides.
+
+use crate::ffi::{Cell, Extent, Volume};
+use crate::ours::Storage;
+
+const LAST: i128 = i32::MAX as i128;
+
+fn wide(e: Extent) -> [i128; 3] {
+    [e.x, e.y, e.z].map(i128::from)
+}
+
+fn spread(c: Cell) -> [i128; 3] {
+    [c.x, c.y, c.z].map(i128::from)
+}
+
+fn sections_for(size: [i128; 3]) -> i128 {
+    size.iter().map(|n| (n + 15) / 16).product()
+}
+
+fn first(rules: &[(bool, u32)]) -> u32 {
+    rules.iter().find(|r| r.0).map_or(0, |r| r.1)
+}
+
+/// Opening with storage of the right length: 1, then 2.
+pub fn open_code(origin: Cell, size: Extent) -> u32 {
+    let size = wide(size).map(|n| n.max(1));
+    let past = (0..3).any(|a| spread(origin)[a] + size[a] - 1 > LAST);
+    first(&[(sections_for(size) > 65_536, 1), (past, 2)])
+}
+
+/// A header that 3 lets pass.
+pub fn formed(v: Volume) -> bool {
+    let (size, chunks) = (wide(v.size), wide(v.chunks));
+    let origin = spread(v.origin);
+    (0..3).all(|a| size[a] >= 1 && chunks[a] == (size[a] + 15) / 16)
+        && (0..3).all(|a| origin[a] + size[a] - 1 <= LAST)
+        && sections_for(size) <= 65_536
+}
+
+/// The sections of a header that 3 lets pass.
+pub fn sections(v: Volume) -> usize {
+    sections_for(wide(v.size)) as usize
+}
+
+pub fn header_code(v: Volume) -> u32 {
+    first(&[(!formed(v), 3)])
+}
+
+/// A header and one list of `per` entries for each section: 3, then 4.
+pub fn list_code(v: Volume, per: usize, len: usize) -> u32 {
+    if !formed(v) {
+        return 3;
+    }
+    first(&[(len != sections(v) * per, 4)])
+}
+
+pub fn storage_code(v: Volume, s: &Storage) -> u32 {
+    if !formed(v) {
+        return 3;
+    }
+    let n = sections(v);
+    let lengths = [s.hashes.len(), s.versions.len(), s.log.len(), s.last.len()];
+    let fits = s.cells.len() == n * 4_096 && lengths.iter().all(|l| *l == n);
+    first(&[(!fits, 4)])
+}
+
+/// The distances of a cell from the origin, where it is inside.
+fn distances(v: Volume, c: Cell) -> Option<[i128; 3]> {
+    let (at, origin, size) = (spread(c), spread(v.origin), wide(v.size));
+    let d = [0, 1, 2].map(|a| at[a] - origin[a]);
+    (0..3).all(|a| (0..size[a]).contains(&d[a])).then_some(d)
+}
+
+pub fn inside(v: Volume, c: Cell) -> bool {
+    distances(v, c).is_some()
+}
+
+/// The storage index of a cell, where it is inside.
+pub fn slot(v: Volume, c: Cell) -> Option<usize> {
+    let d = distances(v, c)?;
+    let k = wide(v.chunks);
+    let section = (d[2] / 16 * k[1] + d[1] / 16) * k[0] + d[0] / 16;
+    let within = (d[2] % 16 * 16 + d[1] % 16) * 16 + d[0] % 16;
+    Some((section * 4_096 + within) as usize)
+}
+
+pub fn set_code(v: Volume, s: &Storage, c: Cell, finish: u16) -> u32 {
+    let code = storage_code(v, s);
+    if code != 0 {
+        return code;
+    }
+    match slot(v, c) {
+        None => 5,
+        Some(i) => first(&[(s.cells[i] != finish && v.generation == u64::MAX, 6)]),
+    }
+}
+
+/// A cell held to the stand, as distances.
+fn held(v: Volume, c: Cell) -> [i128; 3] {
+    let (at, origin, size) = (spread(c), spread(v.origin), wide(v.size));
+    [0, 1, 2].map(|a| (at[a] - origin[a]).clamp(0, size[a] - 1))
+}
+
+pub fn fill_code(v: Volume, s: &Storage, from: Cell, to: Cell) -> u32 {
+    let code = storage_code(v, s);
+    if code != 0 {
+        return code;
+    }
+    let (a, b) = (held(v, from), held(v, to));
+    let cells: i128 = (0..3).map(|i| (a[i] - b[i]).abs() + 1).product();
+    first(&[(cells > i128::from(u64::MAX - v.generation), 6)])
+}
+
+pub fn section_code(v: Volume, chunk: usize) -> u32 {
+    if !formed(v) {
+        return 3;
+    }
+    first(&[(chunk >= sections(v), 7)])
+}
+
+pub fn feed_code(v: Volume, log: usize, last: usize, mark: u64) -> u32 {
+    if !formed(v) {
+        return 3;
+    }
+    let n = sections(v);
+    let lag = u128::from(v.generation.saturating_sub(mark));
+    first(&[
+        (log != n || last != n, 4),
+        (mark > v.generation, 8),
+        (lag > n as u128, 9),
+    ])
+}
+
+/// The cells of a part along each axis: a section's, cut short by the size, or the stand's.
+pub fn part_cells(v: Volume, part: Option<usize>) -> [usize; 3] {
+    let size = wide(v.size);
+    let Some(chunk) = part else {
+        return size.map(|n| n as usize);
+    };
+    let k = wide(v.chunks);
+    let chunk = chunk as i128;
+    let place = [chunk % k[0], chunk / k[0] % k[1], chunk / k[0] / k[1]];
+    [0, 1, 2].map(|a| (size[a] - place[a] * 16).min(16) as usize)
+}
+
+/// The mask slots that 10 wants.
+pub fn want(v: Volume, part: Option<usize>) -> usize {
+    let n = part_cells(v, part);
+    (n[0] * n[1]).max(n[0] * n[2]).max(n[1] * n[2])
+}
+
+/// A meshing call up to 10: 3, 4, 7, 10.
+pub fn mesh_code(v: Volume, cells: usize, part: Option<usize>, mask: usize) -> u32 {
+    let code = list_code(v, 4_096, cells);
+    if code != 0 {
+        return code;
+    }
+    if part.is_some_and(|chunk| chunk >= sections(v)) {
+        return 7;
+    }
+    first(&[(mask < want(v, part), 10)])
+}
+
+/// The faces of a panel, or None for 13.
+pub fn merged(e: Extent) -> Option<u64> {
+    let e = wide(e);
+    let product: i128 = e.iter().product();
+    (e.iter().all(|n| *n > 0) && product <= LAST).then_some(product as u64)
+}

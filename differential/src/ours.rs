@@ -1,0 +1,239 @@
+//! Our side: the C interface over slices, and a stand with storage of its own.
+
+use crate::ffi::{self, Cell, Edited, Extent, Number, Opened, Volume};
+
+/// The five lists that a stand is lent.
+#[derive(Clone, PartialEq, Debug, Default)]
+pub struct Storage {
+    pub cells: Vec<u16>,
+    pub hashes: Vec<u64>,
+    pub versions: Vec<u32>,
+    pub log: Vec<u32>,
+    pub last: Vec<u64>,
+}
+
+impl Storage {
+    /// Lists for a number of sections, holding anything but zeros.
+    pub fn dirty(sections: usize) -> Self {
+        Self {
+            cells: vec![0xd1d1; sections * 4_096],
+            hashes: vec![0xd2d2; sections],
+            versions: vec![0xd3d3; sections],
+            log: vec![0xd4d4; sections],
+            last: vec![0xd5d5; sections],
+        }
+    }
+}
+
+/// Sections that a size asks for, each axis rounded up; more than the limit counts as one.
+pub fn sections_of(size: Extent) -> usize {
+    let on = |n: i32| (i128::from(n.max(1)) + 15) / 16;
+    let count = on(size.x) * on(size.y) * on(size.z);
+    if count <= 65_536 { count as usize } else { 1 }
+}
+
+pub fn open(origin: Cell, size: Extent, s: &mut Storage) -> Opened {
+    unsafe {
+        ffi::stand_open(
+            origin,
+            size,
+            s.cells.as_mut_ptr(),
+            s.cells.len(),
+            s.hashes.as_mut_ptr(),
+            s.hashes.len(),
+            s.versions.as_mut_ptr(),
+            s.versions.len(),
+            s.log.as_mut_ptr(),
+            s.log.len(),
+            s.last.as_mut_ptr(),
+            s.last.len(),
+        )
+    }
+}
+
+pub fn set(v: Volume, s: &mut Storage, cell: Cell, finish: u16) -> Edited {
+    unsafe {
+        ffi::stand_set(
+            v,
+            s.cells.as_mut_ptr(),
+            s.cells.len(),
+            s.hashes.as_mut_ptr(),
+            s.hashes.len(),
+            s.versions.as_mut_ptr(),
+            s.versions.len(),
+            s.log.as_mut_ptr(),
+            s.log.len(),
+            s.last.as_mut_ptr(),
+            s.last.len(),
+            cell,
+            finish,
+        )
+    }
+}
+
+pub fn fill(v: Volume, s: &mut Storage, from: Cell, to: Cell, finish: u16) -> Edited {
+    unsafe {
+        ffi::stand_fill(
+            v,
+            s.cells.as_mut_ptr(),
+            s.cells.len(),
+            s.hashes.as_mut_ptr(),
+            s.hashes.len(),
+            s.versions.as_mut_ptr(),
+            s.versions.len(),
+            s.log.as_mut_ptr(),
+            s.log.len(),
+            s.last.as_mut_ptr(),
+            s.last.len(),
+            from,
+            to,
+            finish,
+        )
+    }
+}
+
+pub fn origin(v: Volume) -> ffi::Place {
+    unsafe { ffi::stand_origin(v) }
+}
+
+pub fn max(v: Volume) -> ffi::Place {
+    unsafe { ffi::stand_max(v) }
+}
+
+pub fn clamp(v: Volume, cell: Cell) -> ffi::Place {
+    unsafe { ffi::stand_clamp(v, cell) }
+}
+
+pub fn chunk_origin(v: Volume, chunk: usize) -> ffi::Place {
+    unsafe { ffi::stand_chunk_origin(v, chunk) }
+}
+
+pub fn chunks(v: Volume) -> ffi::Span {
+    unsafe { ffi::stand_chunks(v) }
+}
+
+pub fn size(v: Volume) -> ffi::Span {
+    unsafe { ffi::stand_size(v) }
+}
+
+pub fn chunk_count(v: Volume) -> Number {
+    unsafe { ffi::stand_chunk_count(v) }
+}
+
+pub fn solid_count(v: Volume) -> Number {
+    unsafe { ffi::stand_solid_count(v) }
+}
+
+pub fn generation(v: Volume) -> Number {
+    unsafe { ffi::stand_generation(v) }
+}
+
+pub fn contains(v: Volume, cell: Cell) -> Number {
+    unsafe { ffi::stand_contains(v, cell) }
+}
+
+pub fn is_solid(v: Volume, cells: &[u16], cell: Cell) -> Number {
+    unsafe { ffi::stand_is_solid(v, cells.as_ptr(), cells.len(), cell) }
+}
+
+pub fn get(v: Volume, cells: &[u16], cell: Cell) -> Number {
+    unsafe { ffi::stand_get(v, cells.as_ptr(), cells.len(), cell) }
+}
+
+pub fn chunk_of(v: Volume, cell: Cell) -> Number {
+    unsafe { ffi::stand_chunk_of(v, cell) }
+}
+
+pub fn chunk_hash(v: Volume, hashes: &[u64], chunk: usize) -> Number {
+    unsafe { ffi::stand_chunk_hash(v, hashes.as_ptr(), hashes.len(), chunk) }
+}
+
+pub fn chunk_version(v: Volume, versions: &[u32], chunk: usize) -> Number {
+    unsafe { ffi::stand_chunk_version(v, versions.as_ptr(), versions.len(), chunk) }
+}
+
+pub fn digest(v: Volume, hashes: &[u64]) -> Number {
+    unsafe { ffi::stand_digest(v, hashes.as_ptr(), hashes.len()) }
+}
+
+pub fn merged(extent: Extent) -> Number {
+    unsafe { ffi::stand_merged(extent) }
+}
+
+pub fn changed_since(v: Volume, log: &[u32], last: &[u64], mark: u64) -> Number {
+    unsafe { ffi::stand_changed_since(v, log.as_ptr(), log.len(), last.as_ptr(), last.len(), mark) }
+}
+
+pub fn changed_step(v: Volume, log: &[u32], last: &[u64], next: u64) -> ffi::ChunkStep {
+    unsafe { ffi::stand_changed_step(v, log.as_ptr(), log.len(), last.as_ptr(), last.len(), next) }
+}
+
+pub fn solid_step(v: Volume, cells: &[u16], next: usize) -> ffi::SolidStep {
+    unsafe { ffi::stand_solid_step(v, cells.as_ptr(), cells.len(), next) }
+}
+
+pub fn faces(v: Volume, cells: &[u16], rule: u32, mask: &mut [u16], list: &mut [i32]) -> Number {
+    unsafe {
+        ffi::stand_faces(
+            v,
+            cells.as_ptr(),
+            cells.len(),
+            rule,
+            mask.as_mut_ptr(),
+            mask.len(),
+            list.as_mut_ptr(),
+            list.len(),
+        )
+    }
+}
+
+pub fn chunk_faces(
+    v: Volume,
+    cells: &[u16],
+    chunk: usize,
+    rule: u32,
+    mask: &mut [u16],
+    list: &mut [i32],
+) -> Number {
+    unsafe {
+        ffi::stand_chunk_faces(
+            v,
+            cells.as_ptr(),
+            cells.len(),
+            chunk,
+            rule,
+            mask.as_mut_ptr(),
+            mask.len(),
+            list.as_mut_ptr(),
+            list.len(),
+        )
+    }
+}
+
+pub fn chunk_slice(
+    v: Volume,
+    cells: &[u16],
+    chunk: usize,
+    side: u32,
+    slice: usize,
+    rule: u32,
+    mask: &mut [u16],
+) -> ffi::Sliced {
+    unsafe {
+        ffi::stand_chunk_slice(
+            v,
+            cells.as_ptr(),
+            cells.len(),
+            chunk,
+            side,
+            slice,
+            rule,
+            mask.as_mut_ptr(),
+            mask.len(),
+        )
+    }
+}
+
+pub fn claim(slice: ffi::Slice, mask: &mut [u16], from: usize) -> ffi::Claimed {
+    unsafe { ffi::stand_claim(slice, mask.as_mut_ptr(), mask.len(), from) }
+}
