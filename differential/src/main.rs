@@ -1,11 +1,127 @@
 //! The stand against the Rust: the same lists of calls on both sides, and a benchmark.
 
 mod bench;
+mod calls;
+mod compare;
+mod counts;
+mod damage;
+mod exhaustive;
+mod fault;
 mod ffi;
+mod guard;
+mod many;
+mod model;
+mod openings;
 mod ours;
+mod pair;
+mod panels;
+mod report;
 mod rng;
+mod run;
+mod selftest;
+mod shrink;
 mod theirs;
+mod tiers;
 
-fn main() {
-    bench::run();
+use report::Report;
+use std::process::ExitCode;
+
+const USAGE: &str = "\
+differential              the whole run
+differential --calls N    a run of about N calls, in the same shares
+differential --seed S     lists made from another seed
+differential --checked    a shorter run that lists the Rust's panics; build it with --profile checked
+differential --self-test  faults put into our side must be found
+differential --bench      times of both sides";
+
+/// Calls of the three tiers together.
+const CALLS: u64 = 10_002_000;
+const DAMAGED: u64 = 1_000_000;
+const CHECKED: u64 = 200_000;
+
+struct Args {
+    calls: u64,
+    seed: u64,
+    mode: String,
+}
+
+fn args() -> Option<Args> {
+    let mut parsed = Args {
+        calls: CALLS,
+        seed: 1,
+        mode: String::new(),
+    };
+    let mut rest = std::env::args().skip(1);
+    while let Some(arg) = rest.next() {
+        match arg.as_str() {
+            "--calls" => parsed.calls = rest.next()?.parse().ok()?,
+            "--seed" => parsed.seed = rest.next()?.parse().ok()?,
+            "--checked" => {
+                parsed.calls = CHECKED;
+                parsed.mode = arg;
+            }
+            "--bench" | "--self-test" => parsed.mode = arg,
+            _ => return None,
+        }
+    }
+    Some(parsed)
+}
+
+fn main() -> ExitCode {
+    let Some(args) = args() else {
+        println!("{USAGE}");
+        return ExitCode::FAILURE;
+    };
+    guard::install();
+    let passed = match args.mode.as_str() {
+        "--bench" => {
+            bench::run();
+            true
+        }
+        "--self-test" => selftest::run(args.seed),
+        mode => compare_all(&args, mode == "--checked"),
+    };
+    if passed {
+        ExitCode::SUCCESS
+    } else {
+        ExitCode::FAILURE
+    }
+}
+
+fn compare_all(args: &Args, catch: bool) -> bool {
+    println!("seed {}", args.seed);
+    let mut report = Report::new(args.seed);
+    report.part("opening at its limits", || openings::run(catch));
+    if !catch {
+        report.part("every short list on tiny stands", exhaustive::run);
+    }
+    for tier in tiers::TIERS {
+        let mut tier = tier;
+        let calls = u128::from(tier.calls) * u128::from(args.calls) / u128::from(CALLS);
+        tier.calls = calls as u64;
+        report.part(tier.name, || tiers::run_tier(&tier, args.seed, catch));
+    }
+    if !catch {
+        let calls = u128::from(DAMAGED) * u128::from(args.calls) / u128::from(CALLS);
+        damaged(calls as u64, args.seed, &mut report);
+    }
+    report.end()
+}
+
+/// Damaged calls count apart: they are outside the domain of comparison.
+fn damaged(calls: u64, seed: u64, report: &mut Report) {
+    let summary = damage::run(calls, seed);
+    println!("damaged calls, held to document 01 (counted apart)");
+    summary.counts.print();
+    let by: Vec<String> = summary
+        .refusals
+        .iter()
+        .enumerate()
+        .filter(|(_, n)| **n > 0)
+        .map(|(code, n)| format!("{code}: {n}"))
+        .collect();
+    println!("  answers by code (0 accepted): {}", by.join(", "));
+    if let Some((stand, difference)) = summary.found {
+        report.differs(&format!("damaged calls on stand {stand}"), &difference);
+    }
 }

@@ -167,3 +167,74 @@ pub fn merged(e: Extent) -> Option<u64> {
     let product: i128 = e.iter().product();
     (e.iter().all(|n| *n > 0) && product <= LAST).then_some(product as u64)
 }
+
+/// The header that opening gives where it is not refused.
+pub fn opened(origin: Cell, size: Extent) -> Volume {
+    let [x, y, z] = wide(size).map(|n| n.max(1) as i32);
+    let on = |n: i32| ((i128::from(n) + 15) / 16) as i32;
+    Volume {
+        origin,
+        chunks: Extent {
+            x: on(x),
+            y: on(y),
+            z: on(z),
+        },
+        size: Extent { x, y, z },
+        generation: 0,
+        solid: 0,
+    }
+}
+
+/// A cell's part of its section's hash: SplitMix64's output for the state within·65,536 + finish.
+fn term(within: usize, finish: u16) -> u64 {
+    let state = (within as u64 * 65_536 + u64::from(finish)).wrapping_add(0x9e37_79b9_7f4a_7c15);
+    let a = (state ^ (state >> 30)).wrapping_mul(0xbf58_476d_1ce4_e5b9);
+    let b = (a ^ (a >> 27)).wrapping_mul(0x94d0_49bb_1331_11eb);
+    b ^ (b >> 31)
+}
+
+/// A set that is not refused, on storage of any contents; whether it changed the cell.
+pub fn set(v: &mut Volume, s: &mut Storage, c: Cell, finish: u16) -> bool {
+    let Some(i) = slot(*v, c) else {
+        return false;
+    };
+    let old = std::mem::replace(&mut s.cells[i], finish);
+    if old == finish {
+        return false;
+    }
+    let section = i / 4_096;
+    for f in [old, finish].into_iter().filter(|f| *f != 0) {
+        s.hashes[section] ^= term(i % 4_096, f);
+    }
+    s.versions[section] = s.versions[section].wrapping_add(1);
+    let ring = (v.generation % s.log.len() as u64) as usize;
+    s.log[ring] = section as u32;
+    v.generation += 1;
+    s.last[section] = v.generation;
+    match (old, finish) {
+        (0, _) => v.solid = v.solid.wrapping_add(1),
+        (_, 0) => v.solid = v.solid.wrapping_sub(1),
+        _ => {}
+    }
+    true
+}
+
+/// The cells of a fill, in its order.
+pub fn box_cells(v: Volume, from: Cell, to: Cell) -> Vec<Cell> {
+    let (a, b) = (held(v, from), held(v, to));
+    let o = spread(v.origin);
+    let on = |i: usize| a[i].min(b[i])..=a[i].max(b[i]);
+    let mut cells = Vec::new();
+    for z in on(2) {
+        for y in on(1) {
+            for x in on(0) {
+                cells.push(Cell {
+                    x: (o[0] + x) as i32,
+                    y: (o[1] + y) as i32,
+                    z: (o[2] + z) as i32,
+                });
+            }
+        }
+    }
+    cells
+}

@@ -23,6 +23,16 @@ impl Storage {
             last: vec![0xd5d5; sections],
         }
     }
+
+    pub fn zeros(sections: usize) -> Self {
+        Self {
+            cells: vec![0; sections * 4_096],
+            hashes: vec![0; sections],
+            versions: vec![0; sections],
+            log: vec![0; sections],
+            last: vec![0; sections],
+        }
+    }
 }
 
 /// Sections that a size asks for, each axis rounded up; more than the limit counts as one.

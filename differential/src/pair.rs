@@ -1,0 +1,250 @@
+//! Both sides side by side: one stand on each, the same calls.
+
+use crate::calls::Call;
+use crate::counts::{Counts, Kind};
+use crate::fault::Fault;
+use crate::ffi::{Cell, Extent, Number, Volume};
+use crate::guard::guarded;
+use crate::model;
+use crate::ours::{self, Storage};
+use crate::theirs::{self, Theirs};
+use std::fmt::Debug;
+
+/// Where the sides part.
+#[derive(Clone, Debug)]
+pub struct Difference(pub String);
+
+pub type Same = Result<(), Difference>;
+
+/// A panic of the Rust: the function called, and where it panicked.
+#[derive(Clone, PartialEq, Eq, PartialOrd, Ord, Debug)]
+pub struct Panic {
+    pub function: &'static str,
+    pub place: String,
+}
+
+pub struct Pair {
+    pub volume: Volume,
+    pub storage: Storage,
+    pub theirs: Theirs,
+    pub counts: Counts,
+    /// The Rust's panics; None where a panic is a difference.
+    pub panics: Option<Vec<Panic>>,
+    pub fault: Option<Fault>,
+    pub mask: Vec<u16>,
+    pub list: Vec<i32>,
+    pub turn: usize,
+}
+
+impl Pair {
+    /// A stand of one cell on both sides.
+    pub fn new(catch: bool) -> Self {
+        let size = Extent { x: 1, y: 1, z: 1 };
+        let mut storage = Storage::dirty(1);
+        let volume = ours::open(Cell::default(), size, &mut storage).volume;
+        Self {
+            volume,
+            storage,
+            theirs: Theirs::open(Cell::default(), size).expect("one cell opens"),
+            counts: Counts::default(),
+            panics: catch.then(Vec::new),
+            fault: None,
+            mask: Vec::new(),
+            list: Vec::new(),
+            turn: 0,
+        }
+    }
+
+    /// What the Rust answers; None where it panicked and panics are caught.
+    pub fn rust<T>(
+        &mut self,
+        function: &'static str,
+        f: impl FnOnce(&mut Theirs) -> T,
+    ) -> Result<Option<T>, Difference> {
+        let theirs = &mut self.theirs;
+        match (guarded(|| f(theirs)), &mut self.panics) {
+            (Ok(answer), _) => Ok(Some(answer)),
+            (Err(place), Some(panics)) => {
+                panics.push(Panic { function, place });
+                Ok(None)
+            }
+            (Err(place), None) => Err(Difference(format!("{function}: the Rust panics, {place}"))),
+        }
+    }
+
+    pub fn same<T: PartialEq + Debug>(&mut self, kind: Kind, what: &str, ours: T, rust: T) -> Same {
+        self.counts.compared(kind);
+        if ours == rust {
+            return Ok(());
+        }
+        Err(Difference(format!("{what}: ours {ours:?}, Rust {rust:?}")))
+    }
+
+    /// A number that the Rust gives, or the refusal that document 01 wants where it gives none.
+    pub fn answer(&mut self, what: &str, ours: Number, rust: Option<u64>, code: u32) -> Same {
+        let wanted = match rust {
+            Some(value) => Number { code: 0, value },
+            None => Number { code, value: 0 },
+        };
+        self.same(Kind::Answer, what, ours, wanted)
+    }
+
+    pub fn call(&mut self, call: &Call) -> Same {
+        self.counts.calls += 1;
+        match *call {
+            Call::Open(origin, size) => self.open(origin, size),
+            Call::Set(cell, finish) => self.set(cell, finish),
+            Call::Fill(from, to, finish) => self.fill(from, to, finish),
+            Call::Look(cell) => self.look(cell),
+            Call::Section(chunk) => self.section(chunk),
+            Call::Since(mark) => self.since(mark),
+            Call::Merged(extent) => self.merged(extent),
+        }
+    }
+
+    fn open(&mut self, origin: Cell, size: Extent) -> Same {
+        let Some(rust) = self.rust("new", |_| Theirs::open(origin, size))? else {
+            return Ok(());
+        };
+        let code = model::open_code(origin, size);
+        let mut storage = Storage::dirty(ours::sections_of(size));
+        let opened = ours::open(origin, size, &mut storage);
+        self.same(Kind::Answer, "open", opened.code, code)?;
+        self.same(Kind::Answer, "open", opened.code == 0, rust.is_some())?;
+        match rust {
+            Some(theirs) => {
+                self.theirs = theirs;
+                self.volume = opened.volume;
+                self.storage = storage;
+            }
+            None => {
+                self.counts.refused += 1;
+                let dirty = Storage::dirty(ours::sections_of(size));
+                self.same(
+                    Kind::Header,
+                    "refused open",
+                    opened.volume,
+                    Volume::default(),
+                )?;
+                self.same(Kind::Kept, "refused open", storage == dirty, true)?;
+            }
+        }
+        Ok(())
+    }
+
+    fn set(&mut self, cell: Cell, finish: u16) -> Same {
+        let Some(rust) = self.rust("set", |t| t.set(cell, finish))? else {
+            return Ok(());
+        };
+        let inside = model::inside(self.volume, cell);
+        let done = ours::set(self.volume, &mut self.storage, cell, finish);
+        self.volume = done.volume;
+        self.tally(rust, !inside);
+        if let Some(fault) = self.fault.filter(|_| rust && finish == 3) {
+            fault.spoil(&mut self.volume, &mut self.storage);
+        }
+        let code = if inside { 0 } else { 5 };
+        self.same(
+            Kind::Answer,
+            "set",
+            (done.code, done.changed),
+            (code, u64::from(rust)),
+        )
+    }
+
+    fn fill(&mut self, from: Cell, to: Cell, finish: u16) -> Same {
+        let Some(rust) = self.rust("fill", |t| t.fill(from, to, finish))? else {
+            return Ok(());
+        };
+        let done = ours::fill(self.volume, &mut self.storage, from, to, finish);
+        self.volume = done.volume;
+        self.tally(rust > 0, false);
+        self.same(Kind::Answer, "fill", (done.code, done.changed), (0, rust))
+    }
+
+    fn tally(&mut self, changed: bool, refused: bool) {
+        self.counts.changing += u64::from(changed);
+        self.counts.refused += u64::from(refused);
+    }
+
+    fn look(&mut self, cell: Cell) -> Same {
+        let v = self.volume;
+        let inside = self.theirs.0.contains(theirs::cell(cell));
+        self.tally(false, !inside);
+        let yes = |b: bool| Some(u64::from(b));
+        self.answer("contains", ours::contains(v, cell), yes(inside), 0)?;
+        let solid = self.theirs.0.is_solid(theirs::cell(cell));
+        let got = ours::is_solid(v, &self.storage.cells, cell);
+        self.answer("is_solid", got, yes(solid), 0)?;
+        let got = ours::get(v, &self.storage.cells, cell);
+        self.answer("get", got, self.theirs.get(cell), 5)?;
+        self.answer(
+            "chunk_of",
+            ours::chunk_of(v, cell),
+            self.theirs.chunk_of(cell),
+            5,
+        )?;
+        let Some(rust) = self.rust("clamp", |t| t.clamp(cell))? else {
+            return Ok(());
+        };
+        let got = ours::clamp(v, cell);
+        self.same(Kind::Answer, "clamp", (got.code, got.cell), (0, rust))
+    }
+
+    fn section(&mut self, chunk: usize) -> Same {
+        let v = self.volume;
+        let there = chunk < self.theirs.0.chunk_count();
+        self.tally(false, !there);
+        let got = ours::chunk_hash(v, &self.storage.hashes, chunk);
+        self.answer("chunk_hash", got, self.theirs.0.chunk_hash(chunk), 7)?;
+        let got = ours::chunk_version(v, &self.storage.versions, chunk);
+        self.answer("chunk_version", got, self.theirs.chunk_version(chunk), 7)?;
+        let got = ours::chunk_origin(v, chunk);
+        let wanted = match self.theirs.chunk_origin(chunk) {
+            Some(cell) => (0, cell),
+            None => (7, Cell::default()),
+        };
+        self.same(Kind::Answer, "chunk_origin", (got.code, got.cell), wanted)?;
+        if there {
+            return self.panels(Some(chunk), 1);
+        }
+        self.no_section(chunk)
+    }
+
+    /// Walks the changes since a mark on both sides.
+    pub fn since(&mut self, mark: u64) -> Same {
+        let v = self.volume;
+        let rust: Option<Vec<u64>> = self
+            .theirs
+            .0
+            .changed_since(mark)
+            .map(|walk| walk.map(|chunk| chunk as u64).collect());
+        let (log, last) = (&self.storage.log, &self.storage.last);
+        let start = ours::changed_since(v, log, last, mark);
+        let mut given = Vec::new();
+        let mut step = ours::changed_step(v, log, last, mark);
+        let code = step.code;
+        while step.given == 1 && given.len() <= log.len() {
+            given.push(step.chunk);
+            step = ours::changed_step(v, log, last, step.next);
+        }
+        let refusal = if mark > v.generation { 8 } else { 9 };
+        self.answer("changed_since", start, rust.as_ref().map(|_| mark), refusal)?;
+        self.same(Kind::Answer, "changed_step", code, start.code)?;
+        let walk = rust.unwrap_or_default();
+        self.same(Kind::Feed, "walk over changes", given, walk)
+    }
+
+    fn merged(&mut self, extent: Extent) -> Same {
+        let Some(rust) = self.rust("merged", |_| theirs::merged(extent))? else {
+            return Ok(());
+        };
+        let wanted = model::merged(extent);
+        let got = ours::merged(extent);
+        self.tally(false, wanted.is_none());
+        if let Some(value) = wanted {
+            self.same(Kind::Answer, "merged", value, rust as u64)?;
+        }
+        self.answer("merged", got, wanted, 13)
+    }
+}

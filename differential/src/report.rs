@@ -1,0 +1,90 @@
+//! What a run prints: counts, differences with their smallest lists, the Rust's panics.
+
+use crate::calls::Call;
+use crate::counts::Counts;
+use crate::many::Summary;
+use crate::pair::{Difference, Panic};
+use crate::run::{self, ALL, Options};
+use crate::shrink::shrink;
+use std::collections::BTreeMap;
+use std::time::Instant;
+
+pub struct Report {
+    pub total: Counts,
+    pub differences: u64,
+    seed: u64,
+    start: Instant,
+}
+
+impl Report {
+    pub fn new(seed: u64) -> Self {
+        Self {
+            total: Counts::default(),
+            differences: 0,
+            seed,
+            start: Instant::now(),
+        }
+    }
+
+    /// A part of the run, its time, and what it found.
+    pub fn part(&mut self, name: &str, work: impl FnOnce() -> Summary) {
+        let start = Instant::now();
+        let summary = work();
+        println!("{name} ({:.1} s)", start.elapsed().as_secs_f64());
+        summary.counts.print();
+        self.total.add(&summary.counts);
+        if let Some(found) = summary.found {
+            self.differs(&format!("list {}", found.list), &found.difference);
+            let small = shrink(&found.calls, |c| run::run(c, ALL).difference.is_some());
+            print_list(&small);
+            if let Some(Difference(text)) = run::run(&small, ALL).difference {
+                println!("    {text}");
+            }
+        }
+        panics(&summary.panics);
+    }
+
+    pub fn differs(&mut self, place: &str, difference: &Difference) {
+        self.differences += 1;
+        println!(
+            "  DIFFERENCE in {place}, seed {}: {}",
+            self.seed, difference.0
+        );
+    }
+
+    /// The last lines: true where nothing differs and a third of the calls changed a cell.
+    pub fn end(&self) -> bool {
+        let t = &self.total;
+        let share = t.changing as f64 / t.calls.max(1) as f64;
+        println!("all ({:.1} s)", self.start.elapsed().as_secs_f64());
+        t.print();
+        println!("  a share of {share:.3} of the calls changed a cell");
+        println!(
+            "{} calls, {} comparisons, {} differences",
+            t.calls,
+            t.comparisons(),
+            self.differences
+        );
+        self.differences == 0 && t.changing * 3 >= t.calls
+    }
+}
+
+fn print_list(calls: &[Call]) {
+    println!("  smallest list found:");
+    for call in calls {
+        println!("    {call}");
+    }
+}
+
+/// Each place where the Rust panicked, with the smallest list that shows it.
+fn panics(all: &BTreeMap<Panic, (u64, Vec<Call>)>) {
+    let options = Options { catch: true, ..ALL };
+    for (panic, (count, calls)) in all {
+        println!(
+            "  {} panics, {count} times: {}",
+            panic.function, panic.place
+        );
+        let small = shrink(calls, |c| run::run(c, options).panics.contains(panic));
+        print_list(&small);
+    }
+}

@@ -1,0 +1,61 @@
+//! One list of calls, run on both sides.
+
+use crate::calls::Call;
+use crate::counts::Counts;
+use crate::fault::Fault;
+use crate::pair::{Difference, Pair, Panic, Same};
+
+#[derive(Clone, Copy)]
+pub struct Options {
+    /// Panels are compared after each call whose number is a multiple of this.
+    pub mesh_every: usize,
+    /// Whether the stand is compared after each call, or after the last alone.
+    pub each: bool,
+    /// Whether the Rust's panics are caught and listed.
+    pub catch: bool,
+    pub fault: Option<Fault>,
+}
+
+pub const ALL: Options = Options {
+    mesh_every: 1,
+    each: true,
+    catch: false,
+    fault: None,
+};
+
+pub struct Outcome {
+    pub counts: Counts,
+    pub panics: Vec<Panic>,
+    pub difference: Option<Difference>,
+}
+
+pub fn run(calls: &[Call], options: Options) -> Outcome {
+    let mut pair = Pair::new(options.catch);
+    pair.fault = options.fault;
+    pair.counts.lists = 1;
+    let mut difference = None;
+    for (i, call) in calls.iter().enumerate() {
+        let last = i + 1 == calls.len();
+        let mesh = (i + 1) % options.mesh_every == 0;
+        if let Err(d) = step(&mut pair, call, options.each || last, mesh) {
+            difference = Some(d);
+            break;
+        }
+    }
+    Outcome {
+        counts: pair.counts,
+        panics: pair.panics.unwrap_or_default(),
+        difference,
+    }
+}
+
+fn step(pair: &mut Pair, call: &Call, compare: bool, mesh: bool) -> Same {
+    pair.call(call)?;
+    if compare {
+        pair.compare_stand()?;
+        if mesh {
+            pair.compare_panels()?;
+        }
+    }
+    Ok(())
+}

@@ -1,0 +1,199 @@
+//! A list that shows something, made as small as it will go.
+
+use crate::calls::Call;
+use crate::ffi::{Cell, Extent};
+
+/// Tries before it stops.
+const TRIES: usize = 20_000;
+
+pub fn shrink(calls: &[Call], shows: impl Fn(&[Call]) -> bool) -> Vec<Call> {
+    let mut s = Shrinker {
+        best: calls.to_vec(),
+        tries: 0,
+        shows,
+    };
+    loop {
+        let before = s.best.clone();
+        s.drop_calls();
+        s.move_to_zero();
+        s.make_smaller();
+        if s.best == before || s.tries >= TRIES {
+            return s.best;
+        }
+    }
+}
+
+struct Shrinker<F> {
+    best: Vec<Call>,
+    tries: usize,
+    shows: F,
+}
+
+impl<F: Fn(&[Call]) -> bool> Shrinker<F> {
+    fn try_list(&mut self, list: Vec<Call>) -> bool {
+        if list == self.best || self.tries >= TRIES {
+            return false;
+        }
+        self.tries += 1;
+        let shows = (self.shows)(&list);
+        if shows {
+            self.best = list;
+        }
+        shows
+    }
+
+    /// Leaves out runs of calls, long ones first.
+    fn drop_calls(&mut self) {
+        let mut run = self.best.len();
+        while run > 0 {
+            let mut at = 0;
+            while at < self.best.len() {
+                let mut list = self.best.clone();
+                list.drain(at..(at + run).min(list.len()));
+                if !self.try_list(list) {
+                    at += run;
+                }
+            }
+            run /= 2;
+        }
+    }
+
+    /// Moves all cells together, so that an opening lies at 0 on an axis.
+    fn move_to_zero(&mut self) {
+        for at in 0..self.best.len() {
+            for axis in 0..3 {
+                let Some(Call::Open(origin, _)) = self.best.get(at).copied() else {
+                    continue;
+                };
+                let by = coordinates(origin)[axis];
+                let list = self.best.iter().map(|c| moved(*c, axis, by)).collect();
+                self.try_list(list);
+            }
+        }
+    }
+
+    fn make_smaller(&mut self) {
+        for at in 0..self.best.len() {
+            while self.make_one_smaller(at) {}
+        }
+    }
+
+    fn make_one_smaller(&mut self, at: usize) -> bool {
+        let Some(call) = self.best.get(at).copied() else {
+            return false;
+        };
+        smaller(call).into_iter().any(|call| {
+            let mut list = self.best.clone();
+            list[at] = call;
+            self.try_list(list)
+        })
+    }
+}
+
+fn coordinates(c: Cell) -> [i32; 3] {
+    [c.x, c.y, c.z]
+}
+
+fn cell(c: [i32; 3]) -> Cell {
+    let [x, y, z] = c;
+    Cell { x, y, z }
+}
+
+fn extent(e: [i32; 3]) -> Extent {
+    let [x, y, z] = e;
+    Extent { x, y, z }
+}
+
+fn moved(call: Call, axis: usize, by: i32) -> Call {
+    let on = |c: Cell| {
+        let mut c = coordinates(c);
+        c[axis] = c[axis].saturating_sub(by);
+        cell(c)
+    };
+    match call {
+        Call::Open(o, s) => Call::Open(on(o), s),
+        Call::Set(c, f) => Call::Set(on(c), f),
+        Call::Fill(a, b, f) => Call::Fill(on(a), on(b), f),
+        Call::Look(c) => Call::Look(on(c)),
+        other => other,
+    }
+}
+
+/// Numbers nearer to `to`, the nearest first.
+fn nearer(n: i32, to: i32) -> Vec<i32> {
+    let (n, to) = (i64::from(n), i64::from(to));
+    let step = (to - n).signum();
+    [to, n + (to - n) / 2, n + step]
+        .into_iter()
+        .filter(|m| *m != n)
+        .map(|m| m as i32)
+        .collect()
+}
+
+/// The same three numbers with one of them nearer to `to`.
+fn triples(t: [i32; 3], to: i32) -> Vec<[i32; 3]> {
+    let mut all = Vec::new();
+    for axis in 0..3 {
+        for n in nearer(t[axis], to) {
+            let mut one = t;
+            one[axis] = n;
+            all.push(one);
+        }
+    }
+    all
+}
+
+fn finishes(f: u16) -> Vec<u16> {
+    [1, 2].into_iter().filter(|n| *n < f).collect()
+}
+
+fn smaller(call: Call) -> Vec<Call> {
+    match call {
+        Call::Open(o, s) => {
+            let sizes = triples([s.x, s.y, s.z], 1).into_iter();
+            let origins = triples(coordinates(o), 0).into_iter();
+            sizes
+                .map(|s| Call::Open(o, extent(s)))
+                .chain(origins.map(|o| Call::Open(cell(o), s)))
+                .collect()
+        }
+        Call::Set(c, f) => {
+            let cells = triples(coordinates(c), 0).into_iter();
+            let finishes = finishes(f).into_iter();
+            cells
+                .map(|c| Call::Set(cell(c), f))
+                .chain(finishes.map(|f| Call::Set(c, f)))
+                .collect()
+        }
+        Call::Fill(a, b, f) => smaller_fill(a, b, f),
+        Call::Look(c) => triples(coordinates(c), 0)
+            .into_iter()
+            .map(|c| Call::Look(cell(c)))
+            .collect(),
+        Call::Section(n) => (0..n.min(4)).map(Call::Section).collect(),
+        Call::Since(m) => [0, m / 2, m.saturating_sub(1)]
+            .into_iter()
+            .filter(|n| *n < m)
+            .map(Call::Since)
+            .collect(),
+        Call::Merged(e) => triples([e.x, e.y, e.z], 1)
+            .into_iter()
+            .map(|e| Call::Merged(extent(e)))
+            .collect(),
+    }
+}
+
+fn smaller_fill(a: Cell, b: Cell, f: u16) -> Vec<Call> {
+    let mut all = vec![Call::Set(a, f), Call::Set(b, f)];
+    for axis in 0..3 {
+        for n in nearer(coordinates(b)[axis], coordinates(a)[axis]) {
+            let mut one = coordinates(b);
+            one[axis] = n;
+            all.push(Call::Fill(a, cell(one), f));
+        }
+    }
+    let corners = triples(coordinates(a), 0).into_iter();
+    all.extend(corners.map(|a| Call::Fill(cell(a), b, f)));
+    all.extend(finishes(f).into_iter().map(|f| Call::Fill(a, b, f)));
+    all
+}
