@@ -12,9 +12,20 @@ pub enum Fault {
     Last,
     Generation,
     Solid,
+    /// "Unchanged" for a set that changes.
+    Answer,
+    Digest,
+    /// Walks that end before their last section or cell.
+    Feed,
+    Solids,
+    /// A panel's extent, a slot left in the mask, a number after the last panel, a panel not claimed.
+    Panel,
+    Mask,
+    Tail,
+    Claim,
 }
 
-pub const ALL: [Fault; 7] = [
+pub const ALL: [Fault; 15] = [
     Fault::Cell,
     Fault::Hash,
     Fault::Version,
@@ -22,9 +33,18 @@ pub const ALL: [Fault; 7] = [
     Fault::Last,
     Fault::Generation,
     Fault::Solid,
+    Fault::Answer,
+    Fault::Digest,
+    Fault::Feed,
+    Fault::Solids,
+    Fault::Panel,
+    Fault::Mask,
+    Fault::Tail,
+    Fault::Claim,
 ];
 
 impl Fault {
+    /// Storage and header after a set.
     pub fn spoil(self, v: &mut Volume, s: &mut Storage) {
         match self {
             Self::Cell => s.cells[4_095] ^= 1,
@@ -34,6 +54,26 @@ impl Fault {
             Self::Last => s.last[0] ^= 1,
             Self::Generation => v.generation += 1,
             Self::Solid => v.solid += 1,
+            _ => {}
+        }
+    }
+
+    /// Mask and list after a meshing call that wrote `panels`.
+    pub fn spoil_mesh(self, panels: usize, mask: &mut [u16], list: &mut [i32]) {
+        match self {
+            Self::Panel => list
+                .iter_mut()
+                .take(panels * 8)
+                .skip(5)
+                .take(1)
+                .for_each(|n| *n += 1),
+            Self::Mask => mask.iter_mut().take(1).for_each(|n| *n = 7),
+            Self::Tail => list
+                .iter_mut()
+                .skip(panels * 8)
+                .take(1)
+                .for_each(|n| *n = 7),
+            _ => {}
         }
     }
 }

@@ -39,6 +39,13 @@ const CALLS: u64 = 10_002_000;
 const DAMAGED: u64 = 1_000_000;
 const CHECKED: u64 = 200_000;
 
+/// A panel whose faces pass i32: with overflow checks the Rust panics.
+const PAST_I32: ffi::Extent = ffi::Extent {
+    x: 65_536,
+    y: 65_536,
+    z: 1,
+};
+
 struct Args {
     calls: u64,
     seed: u64,
@@ -89,6 +96,11 @@ fn main() -> ExitCode {
 }
 
 fn compare_all(args: &Args, catch: bool) -> bool {
+    let checks = guard::guarded(|| theirs::merged(PAST_I32)).is_err();
+    if checks != catch {
+        println!("build with --release, or with --profile checked for --checked");
+        return false;
+    }
     println!("seed {}", args.seed);
     let mut report = Report::new(args.seed);
     report.part("opening at its limits", || openings::run(catch));
@@ -101,7 +113,9 @@ fn compare_all(args: &Args, catch: bool) -> bool {
         tier.calls = calls as u64;
         report.part(tier.name, || tiers::run_tier(&tier, args.seed, catch));
     }
-    if !catch {
+    if catch {
+        report.panics();
+    } else {
         let calls = u128::from(DAMAGED) * u128::from(args.calls) / u128::from(CALLS);
         damaged(calls as u64, args.seed, &mut report);
     }

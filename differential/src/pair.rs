@@ -16,6 +16,15 @@ pub struct Difference(pub String);
 
 pub type Same = Result<(), Difference>;
 
+/// The first entry where two lists part.
+pub fn apart<T: PartialEq + Debug>(name: &str, ours: &[T], rust: &[T]) -> Difference {
+    let at = (0..ours.len().max(rust.len())).find(|i| ours.get(*i) != rust.get(*i));
+    let at = at.unwrap_or(0);
+    let show = |l: &[T]| format!("{:?} of {}", l.get(at), l.len());
+    let (ours, rust) = (show(ours), show(rust));
+    Difference(format!("{name}, entry {at}: ours {ours}, Rust {rust}"))
+}
+
 /// A panic of the Rust: the function called, and where it panicked.
 #[derive(Clone, PartialEq, Eq, PartialOrd, Ord, Debug)]
 pub struct Panic {
@@ -30,7 +39,9 @@ pub struct Pair {
     pub counts: Counts,
     /// The Rust's panics; None where a panic is a difference.
     pub panics: Option<Vec<Panic>>,
+    /// A fault of our side, once its trigger has come: a set to 3 that changes.
     pub fault: Option<Fault>,
+    pub tripped: bool,
     pub mask: Vec<u16>,
     pub list: Vec<i32>,
     pub turn: usize,
@@ -49,6 +60,7 @@ impl Pair {
             counts: Counts::default(),
             panics: catch.then(Vec::new),
             fault: None,
+            tripped: false,
             mask: Vec::new(),
             list: Vec::new(),
             turn: 0,
@@ -80,6 +92,29 @@ impl Pair {
         Err(Difference(format!("{what}: ours {ours:?}, Rust {rust:?}")))
     }
 
+    pub fn same_list<T: PartialEq + Debug>(
+        &mut self,
+        kind: Kind,
+        what: &str,
+        ours: &[T],
+        rust: &[T],
+    ) -> Same {
+        self.counts.compared(kind);
+        if ours == rust {
+            return Ok(());
+        }
+        Err(apart(what, ours, rust))
+    }
+
+    /// What our side must keep to, of which the Rust knows nothing.
+    pub fn holds(&mut self, what: &str, held: bool) -> Same {
+        self.counts.compared(Kind::Kept);
+        if held {
+            return Ok(());
+        }
+        Err(Difference(format!("{what}: not so")))
+    }
+
     /// A number that the Rust gives, or the refusal that document 01 wants where it gives none.
     pub fn answer(&mut self, what: &str, ours: Number, rust: Option<u64>, code: u32) -> Same {
         let wanted = match rust {
@@ -87,6 +122,10 @@ impl Pair {
             None => Number { code, value: 0 },
         };
         self.same(Kind::Answer, what, ours, wanted)
+    }
+
+    pub fn faulty(&self, fault: Fault) -> bool {
+        self.tripped && self.fault == Some(fault)
     }
 
     pub fn call(&mut self, call: &Call) -> Same {
@@ -126,7 +165,7 @@ impl Pair {
                     opened.volume,
                     Volume::default(),
                 )?;
-                self.same(Kind::Kept, "refused open", storage == dirty, true)?;
+                self.holds("refused open keeps the lists", storage == dirty)?;
             }
         }
         Ok(())
@@ -137,11 +176,13 @@ impl Pair {
             return Ok(());
         };
         let inside = model::inside(self.volume, cell);
-        let done = ours::set(self.volume, &mut self.storage, cell, finish);
+        let mut done = ours::set(self.volume, &mut self.storage, cell, finish);
         self.volume = done.volume;
         self.tally(rust, !inside);
         if let Some(fault) = self.fault.filter(|_| rust && finish == 3) {
+            self.tripped = true;
             fault.spoil(&mut self.volume, &mut self.storage);
+            done.changed ^= u64::from(self.faulty(Fault::Answer));
         }
         let code = if inside { 0 } else { 5 };
         self.same(
@@ -228,11 +269,14 @@ impl Pair {
             given.push(step.chunk);
             step = ours::changed_step(v, log, last, step.next);
         }
+        if self.faulty(Fault::Feed) {
+            given.pop();
+        }
         let refusal = if mark > v.generation { 8 } else { 9 };
         self.answer("changed_since", start, rust.as_ref().map(|_| mark), refusal)?;
         self.same(Kind::Answer, "changed_step", code, start.code)?;
         let walk = rust.unwrap_or_default();
-        self.same(Kind::Feed, "walk over changes", given, walk)
+        self.same_list(Kind::Feed, "walk over changes", &given, &walk)
     }
 
     fn merged(&mut self, extent: Extent) -> Same {

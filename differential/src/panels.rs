@@ -1,6 +1,7 @@
 //! Panels compared: lists just long enough, too short, and gathered slice by slice.
 
 use crate::counts::Kind;
+use crate::fault::Fault;
 use crate::ffi::Number;
 use crate::model;
 use crate::ours;
@@ -18,10 +19,15 @@ impl Pair {
         self.list.clear();
         self.list.resize(list, LIST_DIRT);
         let (v, cells) = (self.volume, &self.storage.cells);
-        match part {
-            Some(chunk) => ours::chunk_faces(v, cells, chunk, rule, &mut self.mask, &mut self.list),
-            None => ours::faces(v, cells, rule, &mut self.mask, &mut self.list),
+        let (mask, list) = (&mut self.mask, &mut self.list);
+        let got = match part {
+            Some(chunk) => ours::chunk_faces(v, cells, chunk, rule, mask, list),
+            None => ours::faces(v, cells, rule, mask, list),
+        };
+        if let Some(fault) = self.fault.filter(|_| self.tripped) {
+            fault.spoil_mesh(got.value as usize, mask, list);
         }
+        got
     }
 
     /// The panels of a part: all of them, all but one, and with a mask too short.
@@ -65,7 +71,7 @@ impl Pair {
             got,
             Number { code: 10, value: 0 },
         )?;
-        self.untouched("mask too short")
+        self.untouched("a mask too short: mask and list keep")
     }
 
     /// The panels written, what follows them kept, the mask's first `want` slots 0 and the rest kept.
@@ -82,15 +88,15 @@ impl Pair {
             return Err(Difference(text));
         }
         self.counts.compared(Kind::Panels);
-        self.same(Kind::Kept, "list after the last panel", kept, true)?;
-        self.same(Kind::Kept, "mask cleared", cleared, true)?;
-        self.same(Kind::Kept, "mask beyond", beyond, true)
+        self.holds("the list after the last panel keeps", kept)?;
+        self.holds("the mask's first slots are 0", cleared)?;
+        self.holds("the mask's other slots keep", beyond)
     }
 
     fn untouched(&mut self, what: &str) -> Same {
         let mask = self.mask.iter().all(|n| *n == MASK_DIRT);
         let list = self.list.iter().all(|n| *n == LIST_DIRT);
-        self.same(Kind::Kept, what, (mask, list), (true, true))
+        self.holds(what, mask && list)
     }
 
     /// A section that is not there: the Rust is silent, ours refuses by 7.
@@ -106,7 +112,7 @@ impl Pair {
             got,
             Number { code: 7, value: 0 },
         )?;
-        self.untouched("no such section")
+        self.untouched("no such section: mask and list keep")
     }
 
     /// The panels of a section gathered by chunk_slice and claim, sides and slices in order.
@@ -126,9 +132,12 @@ impl Pair {
                 self.gather(chunk, side, slice, rule, &mut gathered)?;
             }
         }
+        if self.faulty(Fault::Claim) {
+            gathered.pop();
+        }
         let cleared = self.mask.iter().all(|n| *n == 0);
-        self.same(Kind::Kept, "mask after claims", cleared, true)?;
-        self.same(Kind::Slices, "chunk_slice and claim", gathered, rust)
+        self.holds("the mask is 0 after all claims", cleared)?;
+        self.same_list(Kind::Slices, "chunk_slice and claim", &gathered, &rust)
     }
 
     fn gather(

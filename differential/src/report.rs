@@ -14,6 +14,7 @@ pub struct Report {
     pub differences: u64,
     seed: u64,
     start: Instant,
+    panics: BTreeMap<Panic, (u64, Vec<Call>)>,
 }
 
 impl Report {
@@ -23,6 +24,7 @@ impl Report {
             differences: 0,
             seed,
             start: Instant::now(),
+            panics: BTreeMap::new(),
         }
     }
 
@@ -41,7 +43,21 @@ impl Report {
                 println!("    {text}");
             }
         }
-        panics(&summary.panics);
+        for (panic, (count, calls)) in summary.panics {
+            let entry = self.panics.entry(panic);
+            entry.or_insert((0, calls)).0 += count;
+        }
+    }
+
+    /// Each place where the Rust panicked, with the smallest list found that shows it.
+    pub fn panics(&self) {
+        let options = Options { catch: true, ..ALL };
+        println!("panics of the Rust: {} places", self.panics.len());
+        for (panic, (count, calls)) in &self.panics {
+            println!("  {}, {count} times: {}", panic.function, panic.place);
+            let small = shrink(calls, |c| run::run(c, options).panics.contains(panic));
+            print_list(&small);
+        }
     }
 
     pub fn differs(&mut self, place: &str, difference: &Difference) {
@@ -73,18 +89,5 @@ fn print_list(calls: &[Call]) {
     println!("  smallest list found:");
     for call in calls {
         println!("    {call}");
-    }
-}
-
-/// Each place where the Rust panicked, with the smallest list that shows it.
-fn panics(all: &BTreeMap<Panic, (u64, Vec<Call>)>) {
-    let options = Options { catch: true, ..ALL };
-    for (panic, (count, calls)) in all {
-        println!(
-            "  {} panics, {count} times: {}",
-            panic.function, panic.place
-        );
-        let small = shrink(calls, |c| run::run(c, options).panics.contains(panic));
-        print_list(&small);
     }
 }

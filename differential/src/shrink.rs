@@ -119,15 +119,16 @@ fn moved(call: Call, axis: usize, by: i32) -> Call {
     }
 }
 
-/// Numbers nearer to `to`, the nearest first.
+/// Numbers nearer to `to`, the nearest first; each next one goes half as far.
 fn nearer(n: i32, to: i32) -> Vec<i32> {
     let (n, to) = (i64::from(n), i64::from(to));
-    let step = (to - n).signum();
-    [to, n + (to - n) / 2, n + step]
-        .into_iter()
-        .filter(|m| *m != n)
-        .map(|m| m as i32)
-        .collect()
+    let mut way = to - n;
+    let mut all = Vec::new();
+    while way != 0 {
+        all.push((n + way) as i32);
+        way /= 2;
+    }
+    all
 }
 
 /// The same three numbers with one of them nearer to `to`.
@@ -149,14 +150,7 @@ fn finishes(f: u16) -> Vec<u16> {
 
 fn smaller(call: Call) -> Vec<Call> {
     match call {
-        Call::Open(o, s) => {
-            let sizes = triples([s.x, s.y, s.z], 1).into_iter();
-            let origins = triples(coordinates(o), 0).into_iter();
-            sizes
-                .map(|s| Call::Open(o, extent(s)))
-                .chain(origins.map(|o| Call::Open(cell(o), s)))
-                .collect()
-        }
+        Call::Open(o, s) => smaller_open(o, s),
         Call::Set(c, f) => {
             let cells = triples(coordinates(c), 0).into_iter();
             let finishes = finishes(f).into_iter();
@@ -181,6 +175,20 @@ fn smaller(call: Call) -> Vec<Call> {
             .map(|e| Call::Merged(extent(e)))
             .collect(),
     }
+}
+
+/// A smaller size, from the same origin or with the same last cell; or an origin nearer to 0.
+fn smaller_open(o: Cell, s: Extent) -> Vec<Call> {
+    let size = [s.x, s.y, s.z];
+    let mut all = Vec::new();
+    for t in triples(size, 1) {
+        all.push(Call::Open(o, extent(t)));
+        let up = [0, 1, 2].map(|a| coordinates(o)[a].saturating_add(size[a].saturating_sub(t[a])));
+        all.push(Call::Open(cell(up), extent(t)));
+    }
+    let origins = triples(coordinates(o), 0).into_iter();
+    all.extend(origins.map(|o| Call::Open(cell(o), s)));
+    all
 }
 
 fn smaller_fill(a: Cell, b: Cell, f: u16) -> Vec<Call> {

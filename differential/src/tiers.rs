@@ -75,7 +75,9 @@ fn small(rng: &mut Rng) -> Extent {
     turned([a, b, c], rng)
 }
 
-fn sized(most: i32, edges: &[i32], rng: &mut Rng) -> Extent {
+/// Up to `most` sections, four in five times at least `least`.
+fn sized(least: i64, most: i64, edges: &[i32], rng: &mut Rng) -> Extent {
+    let least = if rng.chance(80) { least } else { 1 };
     loop {
         let mut on = || {
             if rng.chance(75) {
@@ -86,18 +88,23 @@ fn sized(most: i32, edges: &[i32], rng: &mut Rng) -> Extent {
         };
         let size = [on(), on(), on()];
         let sections: i64 = size.iter().map(|n| i64::from((n + 15) / 16)).product();
-        if sections <= i64::from(most) {
+        if (least..=most).contains(&sections) {
             return turned(size, rng);
         }
     }
 }
 
 fn medium(rng: &mut Rng) -> Extent {
-    sized(8, &[1, 1, 2, 15, 16, 17, 31, 32, 33, 48, 128], rng)
+    sized(2, 8, &[1, 1, 2, 15, 16, 17, 31, 32, 33, 48, 128], rng)
 }
 
 fn large(rng: &mut Rng) -> Extent {
-    sized(64, &[1, 15, 16, 17, 31, 32, 33, 48, 49, 64, 64, 1_024], rng)
+    sized(
+        9,
+        64,
+        &[1, 15, 16, 17, 31, 32, 33, 48, 49, 64, 64, 1_024],
+        rng,
+    )
 }
 
 pub fn calls_of(tier: &Tier, seed: u64, list: u64) -> Vec<Call> {
