@@ -10,6 +10,7 @@ const LEFT_OUT: [&str; 5] = ["Fixed", "Vec3", "renew_fixed", "pick", "sweep"];
 
 const ACCESSORS: &str = "
 impl Volume {
+    #[allow(clippy::type_complexity)]
     pub fn stored(&self) -> (&[Voxel], &[u64], &[u32], &[u32], &[u64]) {
         (&self.cells, &self.hashes, &self.versions, &self.log, &self.last_changed)
     }

@@ -55,8 +55,16 @@ impl Pair {
             },
         )?;
         self.written(function, want, &rust)?;
+        self.too_short(part, rule, &rust)
+    }
+
+    /// A list with room for some of the panels, then a mask with one slot too few.
+    fn too_short(&mut self, part: Option<usize>, rule: u32, rust: &[[i32; 8]]) -> Same {
+        let all = rust.len();
+        let want = model::want(self.volume, part);
+        let over = self.turn % 8;
         if let Some(short) = all.checked_sub(1 + self.turn % all.max(1)) {
-            let got = self.mesh(part, rule, want + 1, short * 8 + over.min(7));
+            let got = self.mesh(part, rule, want + 1, short * 8 + over);
             let wanted = Number {
                 code: 11,
                 value: all as u64,
