@@ -11,12 +11,14 @@ use crate::ours::Storage;
 use crate::pair::{Difference, Pair, Same};
 use crate::rng::Rng;
 use crate::tiers;
+use std::collections::BTreeMap;
 
 const PER_STAND: u64 = 100;
 
 pub struct Summary {
     pub counts: Counts,
-    pub refusals: [u64; 14],
+    /// Answers by code, 0 for accepted.
+    pub codes: BTreeMap<u32, u64>,
     pub found: Option<(u64, Difference)>,
 }
 
@@ -24,17 +26,17 @@ pub struct Summary {
 pub fn run(count: u64, seed: u64) -> Summary {
     let mut all = Summary {
         counts: Counts::default(),
-        refusals: [0; 14],
+        codes: BTreeMap::new(),
         found: None,
     };
     for stand in 0..count.div_ceil(PER_STAND) {
         let mut rng = Rng::of(seed, 9, stand);
-        let mut bench = Bench::new(&mut rng);
+        let mut hurt = Hurt::new(&mut rng);
         let calls = PER_STAND.min(count - stand * PER_STAND);
-        let result = (0..calls).try_for_each(|_| bench.one(&mut rng));
-        all.counts.add(&bench.counts);
-        for (sum, n) in all.refusals.iter_mut().zip(bench.refusals) {
-            *sum += n;
+        let result = (0..calls).try_for_each(|_| hurt.one(&mut rng));
+        all.counts.add(&hurt.counts);
+        for (code, n) in hurt.codes {
+            *all.codes.entry(code).or_default() += n;
         }
         if let Err(difference) = result {
             all.found = Some((stand, difference));
@@ -45,16 +47,16 @@ pub fn run(count: u64, seed: u64) -> Summary {
 }
 
 /// A stand reached by calls, and the call at work on a damaged copy of it.
-struct Bench {
+struct Hurt {
     volume: Volume,
     storage: Storage,
     v: Volume,
     s: Storage,
     counts: Counts,
-    refusals: [u64; 14],
+    codes: BTreeMap<u32, u64>,
 }
 
-impl Bench {
+impl Hurt {
     fn new(rng: &mut Rng) -> Self {
         let made = list(tiers::TIERS[0].mix, 12, rng);
         let mut pair = Pair::new(false);
@@ -72,7 +74,7 @@ impl Bench {
             v: pair.volume,
             s: pair.storage,
             counts,
-            refusals: [0; 14],
+            codes: BTreeMap::new(),
         }
     }
 
@@ -101,12 +103,7 @@ impl Bench {
     /// Holds a code to the model's, and what a refused answer has beside it to nothing.
     fn hold(&mut self, what: &str, got: u32, wanted: u32, rest: bool) -> Same {
         self.counts.compared(Kind::Answer);
-        if wanted != 0 {
-            self.counts.refused += 1;
-        }
-        if let Some(n) = self.refusals.get_mut(wanted as usize) {
-            *n += 1;
-        }
+        *self.codes.entry(wanted).or_default() += 1;
         if got == wanted && (got == 0 || rest) {
             return Ok(());
         }

@@ -125,13 +125,17 @@ fn compare_all(args: &Args, catch: bool) -> bool {
 /// Damaged calls count apart: they are outside the domain of comparison.
 fn damaged(calls: u64, seed: u64, report: &mut Report) {
     let summary = damage::run(calls, seed);
-    println!("damaged calls, held to document 01 (counted apart)");
-    summary.counts.print();
+    let c = &summary.counts;
+    println!("damaged calls, held to document 01, counted apart");
+    println!(
+        "  {} calls on {} stands, {} comparisons",
+        c.calls,
+        c.lists,
+        c.comparisons()
+    );
     let by: Vec<String> = summary
-        .refusals
+        .codes
         .iter()
-        .enumerate()
-        .filter(|(_, n)| **n > 0)
         .map(|(code, n)| format!("{code}: {n}"))
         .collect();
     println!("  answers by code (0 accepted): {}", by.join(", "));

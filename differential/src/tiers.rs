@@ -40,11 +40,11 @@ pub const TIERS: [Tier; 3] = [
         },
     },
     Tier {
-        name: "up to 64 sections, panels after each 20th call",
+        name: "up to 64 sections, panels after each 4th call",
         number: 3,
         calls: 2_000,
         per_list: 40,
-        mesh_every: 20,
+        mesh_every: 4,
         mix: Mix {
             sizes: large,
             reach: 12,

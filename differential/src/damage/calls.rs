@@ -1,6 +1,6 @@
 //! The damaged calls, each held to the model.
 
-use super::Bench;
+use super::Hurt;
 use super::forge::{some_cell, some_chunk, some_number};
 use crate::ffi::{Cell, Extent, Slice, Volume};
 use crate::model;
@@ -11,7 +11,7 @@ use crate::rng::Rng;
 const DIRT: u16 = 0xd7d7;
 const LIST_DIRT: i32 = 0x5e5e_5e5e;
 
-impl Bench {
+impl Hurt {
     pub fn set(&mut self, rng: &mut Rng) -> Same {
         let (c, finish) = (some_cell(self.v, rng), rng.below(4) as u16);
         let code = model::set_code(self.v, &self.s, c, finish);
