@@ -103,7 +103,6 @@ fn compare_all(args: &Args, catch: bool) -> bool {
     }
     println!("seed {}", args.seed);
     let mut report = Report::new(args.seed);
-    report.part("opening at its limits", || openings::run(catch));
     if !catch {
         report.part("every short list on tiny stands", exhaustive::run);
     }
@@ -113,6 +112,7 @@ fn compare_all(args: &Args, catch: bool) -> bool {
         tier.calls = calls as u64;
         report.part(tier.name, || tiers::run_tier(&tier, args.seed, catch));
     }
+    report.part("opening at its limits", || openings::run(catch));
     if catch {
         report.panics();
     } else {
