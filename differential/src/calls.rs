@@ -8,6 +8,8 @@ use std::fmt;
 pub enum Call {
     Open(Cell, Extent),
     Set(Cell, u16),
+    /// A set with the header lent.
+    SetLent(Cell, u16),
     Fill(Cell, Cell, u16),
     /// get, contains, is_solid, chunk_of, clamp.
     Look(Cell),
@@ -25,6 +27,7 @@ impl fmt::Display for Call {
         match self {
             Self::Open(o, s) => write!(f, "open at {} with size {}", cell(o), extent(s)),
             Self::Set(c, v) => write!(f, "set {} to {v}", cell(c)),
+            Self::SetLent(c, v) => write!(f, "set {} to {v}, header lent", cell(c)),
             Self::Fill(a, b, v) => write!(f, "fill {} to {} with {v}", cell(a), cell(b)),
             Self::Look(c) => write!(f, "look at {}", cell(c)),
             Self::Section(n) => write!(f, "section {n}"),
@@ -73,11 +76,12 @@ impl Maker {
     fn next(&mut self, before: Call, rng: &mut Rng) -> Call {
         self.edits += 1;
         match rng.below(100) {
-            0..52 => Call::Set(self.cell(rng), finish(rng)),
+            0..36 => Call::Set(self.cell(rng), finish(rng)),
+            36..52 => Call::SetLent(self.cell(rng), finish(rng)),
             52..72 => self.fill(rng),
             72..80 => match before {
                 // An equal set or fill, or one more of its kind.
-                Call::Set(..) | Call::Fill(..) => before,
+                Call::Set(..) | Call::SetLent(..) | Call::Fill(..) => before,
                 _ => Call::Set(self.cell(rng), finish(rng)),
             },
             80..89 => Call::Look(self.cell(rng)),

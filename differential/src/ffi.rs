@@ -139,6 +139,21 @@ unsafe extern "C" {
         cell: Cell,
         finish: u16,
     ) -> Edited;
+    pub fn stand_set_lent(
+        volume: *mut Volume,
+        cells: *mut u16,
+        cells_len: usize,
+        hashes: *mut u64,
+        hashes_len: usize,
+        versions: *mut u32,
+        versions_len: usize,
+        log: *mut u32,
+        log_len: usize,
+        last: *mut u64,
+        last_len: usize,
+        cell: Cell,
+        finish: u16,
+    ) -> Number;
     pub fn stand_fill(
         volume: Volume,
         cells: *mut u16,

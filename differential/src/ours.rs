@@ -81,6 +81,27 @@ pub fn set(v: Volume, s: &mut Storage, cell: Cell, finish: u16) -> Edited {
     }
 }
 
+/// A set that alters the header where it is.
+pub fn set_lent(v: &mut Volume, s: &mut Storage, cell: Cell, finish: u16) -> Number {
+    unsafe {
+        ffi::stand_set_lent(
+            v,
+            s.cells.as_mut_ptr(),
+            s.cells.len(),
+            s.hashes.as_mut_ptr(),
+            s.hashes.len(),
+            s.versions.as_mut_ptr(),
+            s.versions.len(),
+            s.log.as_mut_ptr(),
+            s.log.len(),
+            s.last.as_mut_ptr(),
+            s.last.len(),
+            cell,
+            finish,
+        )
+    }
+}
+
 pub fn fill(v: Volume, s: &mut Storage, from: Cell, to: Cell, finish: u16) -> Edited {
     unsafe {
         ffi::stand_fill(

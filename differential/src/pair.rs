@@ -132,7 +132,8 @@ impl Pair {
         self.counts.calls += 1;
         match *call {
             Call::Open(origin, size) => self.open(origin, size),
-            Call::Set(cell, finish) => self.set(cell, finish),
+            Call::Set(cell, finish) => self.set(cell, finish, false),
+            Call::SetLent(cell, finish) => self.set(cell, finish, true),
             Call::Fill(from, to, finish) => self.fill(from, to, finish),
             Call::Look(cell) => self.look(cell),
             Call::Section(chunk) => self.section(chunk),
@@ -171,26 +172,32 @@ impl Pair {
         Ok(())
     }
 
-    fn set(&mut self, cell: Cell, finish: u16) -> Same {
+    fn set(&mut self, cell: Cell, finish: u16, lent: bool) -> Same {
         let Some(rust) = self.rust("set", |t| t.set(cell, finish))? else {
             return Ok(());
         };
         let inside = model::inside(self.volume, cell);
-        let mut done = ours::set(self.volume, &mut self.storage, cell, finish);
-        self.volume = done.volume;
+        let (code, mut changed) = self.set_ours(cell, finish, lent);
         self.tally(rust, !inside);
         if let Some(fault) = self.fault.filter(|_| rust && finish == 3) {
             self.tripped = true;
             fault.spoil(&mut self.volume, &mut self.storage);
-            done.changed ^= u64::from(self.faulty(Fault::Answer));
+            changed ^= u64::from(self.faulty(Fault::Answer));
         }
-        let code = if inside { 0 } else { 5 };
-        self.same(
-            Kind::Answer,
-            "set",
-            (done.code, done.changed),
-            (code, u64::from(rust)),
-        )
+        let wanted = if inside { 0 } else { 5 };
+        let rust = (wanted, u64::from(rust));
+        self.same(Kind::Answer, "set", (code, changed), rust)
+    }
+
+    /// Our set, the header by value or lent: its code, and the cells changed.
+    fn set_ours(&mut self, cell: Cell, finish: u16, lent: bool) -> (u32, u64) {
+        if lent {
+            let got = ours::set_lent(&mut self.volume, &mut self.storage, cell, finish);
+            return (got.code, got.value);
+        }
+        let done = ours::set(self.volume, &mut self.storage, cell, finish);
+        self.volume = done.volume;
+        (done.code, done.changed)
     }
 
     fn fill(&mut self, from: Cell, to: Cell, finish: u16) -> Same {

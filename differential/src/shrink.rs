@@ -113,6 +113,7 @@ fn moved(call: Call, axis: usize, by: i32) -> Call {
     match call {
         Call::Open(o, s) => Call::Open(on(o), s),
         Call::Set(c, f) => Call::Set(on(c), f),
+        Call::SetLent(c, f) => Call::SetLent(on(c), f),
         Call::Fill(a, b, f) => Call::Fill(on(a), on(b), f),
         Call::Look(c) => Call::Look(on(c)),
         other => other,
@@ -159,6 +160,15 @@ fn smaller(call: Call) -> Vec<Call> {
                 .chain(finishes.map(|f| Call::Set(c, f)))
                 .collect()
         }
+        Call::SetLent(c, f) => [Call::Set(c, f)]
+            .into_iter()
+            .chain(
+                triples(coordinates(c), 0)
+                    .into_iter()
+                    .map(|c| Call::SetLent(cell(c), f)),
+            )
+            .chain(finishes(f).into_iter().map(|f| Call::SetLent(c, f)))
+            .collect(),
         Call::Fill(a, b, f) => smaller_fill(a, b, f),
         Call::Look(c) => triples(coordinates(c), 0)
             .into_iter()

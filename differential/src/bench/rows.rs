@@ -31,13 +31,22 @@ fn some_cells(rng: &mut Rng) -> Vec<(Cell, u16)> {
 pub fn edits(show: &mut impl FnMut(Row)) {
     let mut both = Both::open();
     let some = some_cells(&mut Rng::of(1, 0, 0));
-    show(sets("set (another finish)", 1, &some, &mut both));
-    show(sets("set (the same finish)", 0, &some, &mut both));
+    let (by_value, lent) = (Both::set_ours, Both::set_lent);
+    show(sets("set (another finish)", 1, by_value, &some, &mut both));
+    show(sets("set (the same finish)", 0, by_value, &some, &mut both));
+    show(sets("set lent (another)", 1, lent, &some, &mut both));
+    show(sets("set lent (the same)", 0, lent, &some, &mut both));
     fills(&mut both, show);
 }
 
 /// Sets of the same cells again and again, the finish moved on by `step` each turn.
-fn sets(name: &'static str, step: u16, some: &[(Cell, u16)], both: &mut Both) -> Row {
+fn sets(
+    name: &'static str,
+    step: u16,
+    set: fn(&mut Both, Cell, u16) -> u64,
+    some: &[(Cell, u16)],
+    both: &mut Both,
+) -> Row {
     let (mut turn, mut back) = (0u16, 0u16);
     measure(
         name,
@@ -47,7 +56,7 @@ fn sets(name: &'static str, step: u16, some: &[(Cell, u16)], both: &mut Both) ->
         |b| {
             turn = (turn + step) % 4;
             for &(c, f) in some {
-                black_box(b.set_ours(black_box(c), f ^ turn));
+                black_box(set(b, black_box(c), f ^ turn));
             }
         },
         |b| {

@@ -61,6 +61,10 @@ impl Both {
         done.changed
     }
 
+    pub fn set_lent(&mut self, c: Cell, finish: u16) -> u64 {
+        ours::set_lent(&mut self.volume, &mut self.storage, c, finish).value
+    }
+
     pub fn fill_ours(&mut self, from: Cell, to: Cell, finish: u16) -> u64 {
         let done = ours::fill(self.volume, &mut self.storage, from, to, finish);
         self.volume = done.volume;

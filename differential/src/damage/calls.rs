@@ -17,6 +17,12 @@ impl Hurt {
         let code = model::set_code(self.v, &self.s, c, finish);
         let (mut after, mut stored) = (self.v, self.s.clone());
         let changed = code == 0 && model::set(&mut after, &mut stored, c, finish);
+        if rng.chance(50) {
+            let mut v = self.v;
+            let got = ours::set_lent(&mut v, &mut self.s, c, finish);
+            self.number("set lent", got, code, u64::from(changed))?;
+            return self.kept("set lent", v == after && self.s == stored);
+        }
         let got = ours::set(self.v, &mut self.s, c, finish);
         self.hold("set", got.code, code, got.changed == 0)?;
         let equal = (got.changed, got.volume) == (u64::from(changed), after);
