@@ -14,6 +14,8 @@ pub struct Found {
     pub list: u64,
     pub calls: Vec<Call>,
     pub difference: Difference,
+    /// How the list was run.
+    pub options: Options,
 }
 
 #[derive(Default)]
@@ -26,7 +28,7 @@ pub struct Summary {
 }
 
 impl Summary {
-    pub fn add(&mut self, list: u64, calls: Vec<Call>, outcome: Outcome) {
+    pub fn add(&mut self, list: u64, calls: Vec<Call>, outcome: Outcome, options: Options) {
         self.counts.add(&outcome.counts);
         for panic in outcome.panics {
             let entry = self.panics.entry(panic);
@@ -38,6 +40,7 @@ impl Summary {
                 list,
                 calls,
                 difference,
+                options,
             });
         }
     }
@@ -58,7 +61,7 @@ pub fn run_lists(lists: u64, options: Options, make: impl Fn(u64) -> Vec<Call> +
             let outcome = run::run(&calls, options);
             stop.fetch_or(outcome.difference.is_some(), Ordering::Relaxed);
             let mut all = summary.lock().expect("no thread panicked");
-            all.add(list, calls, outcome);
+            all.add(list, calls, outcome, options);
         }
     };
     let threads = thread::available_parallelism().map_or(1, usize::from);

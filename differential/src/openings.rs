@@ -3,7 +3,7 @@
 use crate::calls::Call;
 use crate::ffi::{Cell, Extent};
 use crate::many::Summary;
-use crate::run::{self, ALL, Options};
+use crate::run::{self, ALL, NEVER, Options};
 
 const LAST: i32 = i32::MAX;
 /// The most sections along one axis, in cells.
@@ -66,7 +66,7 @@ fn openings() -> Vec<Call> {
 
 pub fn run(catch: bool) -> Summary {
     let options = Options {
-        mesh_every: usize::MAX,
+        mesh_every: NEVER,
         catch,
         ..ALL
     };
@@ -74,7 +74,7 @@ pub fn run(catch: bool) -> Summary {
     for (number, call) in openings().into_iter().enumerate() {
         let calls = vec![call];
         let outcome = run::run(&calls, options);
-        summary.add(number as u64, calls, outcome);
+        summary.add(number as u64, calls, outcome, options);
     }
     summary
 }

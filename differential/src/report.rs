@@ -37,9 +37,10 @@ impl Report {
         self.total.add(&summary.counts);
         if let Some(found) = summary.found {
             self.differs(&format!("list {}", found.list), &found.difference);
-            let small = shrink(&found.calls, |c| run::run(c, ALL).difference.is_some());
+            let options = found.options.closely();
+            let small = shrink(&found.calls, |c| run::run(c, options).difference.is_some());
             print_list(&small);
-            if let Some(Difference(text)) = run::run(&small, ALL).difference {
+            if let Some(Difference(text)) = run::run(&small, options).difference {
                 println!("    {text}");
             }
         }

@@ -5,6 +5,9 @@ use crate::counts::Counts;
 use crate::fault::Fault;
 use crate::pair::{Difference, Pair, Panic, Same};
 
+/// For stands too large to mesh.
+pub const NEVER: usize = usize::MAX;
+
 #[derive(Clone, Copy)]
 pub struct Options {
     /// Panels are compared after each call whose number is a multiple of this.
@@ -22,6 +25,18 @@ pub const ALL: Options = Options {
     catch: false,
     fault: None,
 };
+
+impl Options {
+    /// Everything compared after each call, for the smallest list.
+    pub fn closely(self) -> Self {
+        let mesh_every = if self.mesh_every == NEVER { NEVER } else { 1 };
+        Self {
+            mesh_every,
+            each: true,
+            ..self
+        }
+    }
+}
 
 pub struct Outcome {
     pub counts: Counts,

@@ -2,14 +2,15 @@
 
 use crate::calls::Call;
 use crate::ffi::{Cell, Extent};
+use std::time::{Duration, Instant};
 
-/// Tries before it stops.
-const TRIES: usize = 20_000;
+/// How long it goes on.
+const LIMIT: Duration = Duration::from_secs(30);
 
 pub fn shrink(calls: &[Call], shows: impl Fn(&[Call]) -> bool) -> Vec<Call> {
     let mut s = Shrinker {
         best: calls.to_vec(),
-        tries: 0,
+        start: Instant::now(),
         shows,
     };
     loop {
@@ -17,7 +18,7 @@ pub fn shrink(calls: &[Call], shows: impl Fn(&[Call]) -> bool) -> Vec<Call> {
         s.drop_calls();
         s.move_to_zero();
         s.make_smaller();
-        if s.best == before || s.tries >= TRIES {
+        if s.best == before || s.is_late() {
             return s.best;
         }
     }
@@ -25,16 +26,19 @@ pub fn shrink(calls: &[Call], shows: impl Fn(&[Call]) -> bool) -> Vec<Call> {
 
 struct Shrinker<F> {
     best: Vec<Call>,
-    tries: usize,
+    start: Instant,
     shows: F,
 }
 
 impl<F: Fn(&[Call]) -> bool> Shrinker<F> {
+    fn is_late(&self) -> bool {
+        self.start.elapsed() > LIMIT
+    }
+
     fn try_list(&mut self, list: Vec<Call>) -> bool {
-        if list == self.best || self.tries >= TRIES {
+        if list == self.best || self.is_late() {
             return false;
         }
-        self.tries += 1;
         let shows = (self.shows)(&list);
         if shows {
             self.best = list;

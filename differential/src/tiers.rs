@@ -62,7 +62,7 @@ fn turned(size: [i32; 3], rng: &mut Rng) -> Extent {
     }
 }
 
-/// At most 64 cells, two in five across a section's edge.
+/// At most 64 cells, two in five long ones, most of these across a section's edge.
 fn small(rng: &mut Rng) -> Extent {
     if rng.chance(40) {
         let long = rng.pick(&[15, 16, 17, 18, 31, 32, 33, 47, 48, 49, 63, 64]);
