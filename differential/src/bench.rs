@@ -6,12 +6,12 @@ mod stand;
 use stand::Both;
 use std::time::Instant;
 
-const ROUNDS: usize = 15;
+const ROUNDS: usize = 40;
 /// What one measured round takes at least.
 const ROUND_NANOS: u128 = 4_000_000;
 
 const NOTES: &str = "\
-Times are for one call (set, get: one cell), best of 15 rounds on each side, the sides in turns.
+Times are for one call (set, get: one cell), best of 40 rounds on each side, the sides in turns.
 Stand of 48 by 48 by 48 cells; patterns of chunk_faces lie in its middle section; outside is empty.
 Ours is called through the C interface, with mask and list lent and not cleared between calls.
 The Rust allocates a mask for each side, and its list anew in each call (`list kept`: the caller's,
