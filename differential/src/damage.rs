@@ -85,7 +85,7 @@ impl Hurt {
             forge::damage_header(&mut self.v, rng);
         }
         if rng.chance(30) {
-            forge::damage_lists(&mut self.s, rng);
+            forge::damage_lists(&mut self.s, self.v.generation, rng);
         }
         self.counts.calls += 1;
         match rng.below(20) {

@@ -238,3 +238,44 @@ pub fn box_cells(v: Volume, from: Cell, to: Cell) -> Vec<Cell> {
     }
     cells
 }
+
+/// The place of a storage index, its coordinates exact.
+fn place(v: Volume, i: usize) -> [i128; 3] {
+    let (o, k) = (spread(v.origin), wide(v.chunks));
+    let (section, within) = ((i / 4_096) as i128, (i % 4_096) as i128);
+    let corner = [section % k[0], section / k[0] % k[1], section / k[0] / k[1]];
+    let step = [within % 16, within / 16 % 16, within / 256];
+    [0, 1, 2].map(|a| o[a] + corner[a] * 16 + step[a])
+}
+
+/// The walk over occupied cells of storage with any contents, coordinates saturating.
+pub fn solids(v: Volume, cells: &[u16]) -> Vec<(Cell, u32)> {
+    let occupied = cells.iter().enumerate().filter(|(_, f)| **f != 0);
+    occupied
+        .map(|(i, f)| {
+            let [x, y, z] = place(v, i).map(|n| n.min(LAST) as i32);
+            (Cell { x, y, z }, u32::from(*f))
+        })
+        .collect()
+}
+
+/// The cells with every slot beyond the size emptied.
+pub fn cut(v: Volume, cells: &[u16]) -> Vec<u16> {
+    let (o, size) = (spread(v.origin), wide(v.size));
+    let inside = |i: usize| {
+        let at = place(v, i);
+        (0..3).all(|a| at[a] - o[a] < size[a])
+    };
+    let slots = cells.iter().enumerate();
+    slots.map(|(i, f)| if inside(i) { *f } else { 0 }).collect()
+}
+
+/// The sections changed since a mark, on log and last changes of any contents.
+pub fn changed(v: Volume, log: &[u32], last: &[u64], mark: u64) -> Vec<u64> {
+    let given = |g: u64| {
+        let section = log[(g % log.len() as u64) as usize];
+        let own = last.get(section as usize) == Some(&(g + 1));
+        own.then_some(u64::from(section))
+    };
+    (mark..v.generation).filter_map(given).collect()
+}

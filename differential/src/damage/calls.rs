@@ -114,7 +114,7 @@ impl Hurt {
     }
 
     /// Calls that read one list: 3, 4, then their own.
-    pub fn list_reads(&mut self, c: Cell, chunk: usize, seven: u32) -> Same {
+    fn list_reads(&mut self, c: Cell, chunk: usize, seven: u32) -> Same {
         let v = self.v;
         let code = model::list_code(v, 4_096, self.s.cells.len());
         let slot = if code == 0 { model::slot(v, c) } else { None };
@@ -130,6 +130,14 @@ impl Hurt {
             code,
             (got.given, got.next) == (0, 0),
         )?;
+        if code == 0 {
+            self.walk_solids()?;
+        }
+        self.entries(chunk, seven)
+    }
+
+    fn entries(&mut self, chunk: usize, seven: u32) -> Same {
+        let v = self.v;
         let lengths = [self.s.hashes.len(), self.s.versions.len()];
         let [hashes, versions] = lengths.map(|len| model::list_code(v, 1, len));
         let got = ours::digest(v, &self.s.hashes);
@@ -160,7 +168,34 @@ impl Hurt {
         let step = ours::changed_step(self.v, log, last, mark);
         self.number("changed_since", start, code, mark)?;
         let rest = (step.given, step.chunk, step.next) == (0, 0, 0);
-        self.hold("changed_step", step.code, code, rest)
+        self.hold("changed_step", step.code, code, rest)?;
+        if code == 0 {
+            return self.walk_changes(mark);
+        }
+        Ok(())
+    }
+
+    fn walk_changes(&mut self, mark: u64) -> Same {
+        let (v, log, last) = (self.v, &self.s.log, &self.s.last);
+        let wanted = model::changed(v, log, last, mark);
+        let mut given = Vec::new();
+        let mut step = ours::changed_step(v, log, last, mark);
+        while step.given == 1 && given.len() <= wanted.len() {
+            given.push(step.chunk);
+            step = ours::changed_step(v, log, last, step.next);
+        }
+        self.kept("walk over changes", given == wanted)
+    }
+
+    fn walk_solids(&mut self) -> Same {
+        let wanted = model::solids(self.v, &self.s.cells);
+        let mut given = Vec::new();
+        let mut step = ours::solid_step(self.v, &self.s.cells, 0);
+        while step.given == 1 && given.len() <= wanted.len() {
+            given.push((step.cell, step.finish));
+            step = ours::solid_step(self.v, &self.s.cells, step.next as usize);
+        }
+        self.kept("walk over occupied cells", given == wanted)
     }
 
     pub fn mesh(&mut self, rng: &mut Rng) -> Same {
@@ -185,6 +220,7 @@ impl Hurt {
             let kept = mask.iter().all(|n| *n == DIRT) && list.iter().all(|n| *n == LIST_DIRT);
             return self.kept("refused panels", kept);
         }
+        self.beyond_is_nothing(part, rule, &mask, &list)?;
         let want = model::want(self.v, part);
         let room = (got.value as usize).min(list.len() / 8) * 8;
         let mask = mask[..want].iter().all(|n| *n == 0) && mask[want..].iter().all(|n| *n == DIRT);
@@ -192,6 +228,26 @@ impl Hurt {
             "panels",
             mask && list[room..].iter().all(|n| *n == LIST_DIRT),
         )
+    }
+
+    /// What the slots beyond the size hold makes no difference to panels.
+    fn beyond_is_nothing(
+        &mut self,
+        part: Option<usize>,
+        rule: u32,
+        mask: &[u16],
+        list: &[i32],
+    ) -> Same {
+        let cells = model::cut(self.v, &self.s.cells);
+        let mut mask_after = vec![DIRT; mask.len()];
+        let mut list_after = vec![LIST_DIRT; list.len()];
+        let (m, l) = (&mut mask_after, &mut list_after);
+        match part {
+            Some(chunk) => ours::chunk_faces(self.v, &cells, chunk, rule, m, l),
+            None => ours::faces(self.v, &cells, rule, m, l),
+        };
+        let same = mask_after == mask && list_after == list;
+        self.kept("slots beyond the size", same)
     }
 
     pub fn slice(&mut self, rng: &mut Rng) -> Same {

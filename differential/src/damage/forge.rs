@@ -58,20 +58,34 @@ pub fn damage_header(v: &mut Volume, rng: &mut Rng) {
     }
 }
 
-pub fn damage_lists(s: &mut Storage, rng: &mut Rng) {
+/// `now` is the generation that the lists go with.
+pub fn damage_lists(s: &mut Storage, now: u64, rng: &mut Rng) {
     let odd = |n: usize, rng: &mut Rng| rng.pick(&[0, n - 1, n + 1, n * 2]);
-    match rng.below(6) {
+    match rng.below(8) {
         0 => s.cells.resize(odd(s.cells.len(), rng), 1),
         1 => s.hashes.resize(odd(s.hashes.len(), rng), 1),
         2 => s.versions.resize(odd(s.versions.len(), rng), 1),
         3 => s.log.resize(odd(s.log.len(), rng), 1),
         4 => s.last.resize(odd(s.last.len(), rng), 1),
-        // The right lengths, any contents: every call must still end and be safe.
+        // The right lengths and any contents, slots beyond the size among them.
+        5 => {
+            for _ in 0..rng.below(200) {
+                let i = rng.below(s.cells.len() as u64) as usize;
+                s.cells[i] = rng.below(4) as u16;
+            }
+        }
         _ => {
             s.log
                 .iter_mut()
                 .for_each(|n| *n = rng.next() as u32 >> rng.pick(&[0, 30]));
-            s.last.iter_mut().for_each(|n| *n = rng.next());
+            let near = |rng: &mut Rng| now.wrapping_sub(rng.below(6));
+            s.last.iter_mut().for_each(|n| {
+                *n = if rng.chance(70) {
+                    near(rng)
+                } else {
+                    rng.next()
+                }
+            });
             s.hashes.iter_mut().for_each(|n| *n = rng.next());
             s.versions.iter_mut().for_each(|n| *n = u32::MAX);
         }
