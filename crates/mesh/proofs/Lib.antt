@@ -26,3 +26,4 @@ pub mod Slicing
 pub mod Step
 pub mod Tiling
 pub mod Upto
+pub mod Wanting

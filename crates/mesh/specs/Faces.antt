@@ -7,7 +7,7 @@ use lib.Dec.{leb, ltb}
 use lib.IntN.{ℤ}
 use lib.ListN.{length, drop, replicate}
 use Rattle.stand.specs.Edit.{look}
-use Rattle.stand.specs.Refusal.{Rule, _⇒_, first, listRules}
+use Rattle.stand.specs.Refusal.{Answer, Rule, _⇒_, answer, first, headerRules, listRules}
 use Rattle.stand.specs.Shape.{Ranged, Shape, sections, shapeOf, wellFormed}
 use Rattle.stand.specs.declared.volume.Volume.{Volume}
 use Rattle.stand.specs.declared.volume.shape.Region.{Region}
@@ -64,6 +64,10 @@ facesCall v cells beyond m l = partCall (listRules 4096 v (length cells)) (shape
 unfoldable pub chunkFacesCall : Volume → List ℕ → ℕ → Bool → List ℕ → List ℤ → Meshing
 chunkFacesCall v cells i beyond m l =
     partCall (listRules 4096 v (length cells) ++ (leb (sections (shapeOf v)) i ⇒ 7) ∷ []) (shapeOf v) cells beyond (sectionPart (shapeOf v) i) m l
+
+-- how many mask slots a section wants
+unfoldable pub slotsCall : Volume → ℕ → Answer ℕ
+slotsCall v i = answer (first (headerRules v ++ (leb (sections (shapeOf v)) i ⇒ 7) ∷ [])) (largestSide (sectionPart (shapeOf v) i))
 
 -- ---- for the code
 

@@ -1,8 +1,9 @@
 // The calls that mesh: one section, or the whole stand.
 ghost use mathlib.Core.Path.{_≡_};
 ghost use mathlib.Core.List.{[]};
+ghost use Rattle.stand.specs.Answer.{numberAnswer};
 ghost use Rattle.stand.specs.Shape.{shapeOf};
-ghost use Rattle.mesh.specs.Faces.{PartGiven, chunkFacesCall, facesAnswer, facesCall, meshingOf, partCall};
+ghost use Rattle.mesh.specs.Faces.{PartGiven, chunkFacesCall, facesAnswer, facesCall, meshingOf, partCall, slotsCall};
 ghost use Rattle.mesh.specs.Tiles.{partOf};
 ghost use Rattle.mesh.specs.Visible.{emptyBeyond};
 use crate::Beyond;
@@ -13,6 +14,7 @@ use crate::tiles::largest;
 use crate::tiles::section_part;
 use crate::tiles::whole_part;
 use stand::volume::Volume;
+use stand::volume::answer::NumberAnswer;
 use stand::volume::shape::cells_code;
 
 // What a meshing call answers: the panels written; that the list is too short for those there are (refusal 11); or refused.
@@ -95,4 +97,18 @@ pub fn faces(
     let p = whole_part(v);
     let outside = is_empty_beyond(beyond);
     mesh_part(mask, cells, v, p, outside, list)
+}
+
+// How many mask slots a section wants. Rules out those of a section that the size does not cut short, and an answer past the last section.
+pub fn chunk_slots(v: Volume, chunk: usize) -> NumberAnswer
+    ensures { λ r. ⌜ numberAnswer r ≡ slotsCall v chunk ⌝ }
+{
+    let NumberAnswer::Is(n) = v.chunk_count() else {
+        return NumberAnswer::Refused(3);
+    };
+    if n <= chunk as u64 {
+        return NumberAnswer::Refused(7);
+    }
+    let p = section_part(v, chunk);
+    NumberAnswer::Is(largest(p))
 }

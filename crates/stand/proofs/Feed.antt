@@ -77,7 +77,7 @@ fed-some v log last mark f = (rw (f .log-is) (sections-some (shapeOf v) (formed-
 
 -- ---- one generation
 
-by-test : {A : Type 0} (b : Bool) → (b ≡ true → A) → (b ≡ false → A) → A
+pub by-test : {A : Type 0} (b : Bool) → (b ≡ true → A) → (b ≡ false → A) → A
 by-test true f g = f refl
 by-test false f g = g refl
 

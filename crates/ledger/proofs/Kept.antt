@@ -1,0 +1,103 @@
+-- Each call, whatever it is lent, keeps what book and state have in common.
+use mathlib.Core.Path.{_≡_, refl, sym, ap, _∙_}
+use mathlib.Core.Logic.{⊎-elim}
+use mathlib.Core.Bool.{true, false, false≢true}
+use mathlib.Core.List.{List}
+use mathlib.Core.Option.{Option, none, some}
+use borrow.Author.Tests.{not-true}
+use Prim.Native.Nat.{ℕ}
+use Rattle.stand.specs.Edit.{fitting, setCall}
+use Rattle.stand.specs.Fill.{fillCall}
+use Rattle.stand.specs.Opening as O
+use Rattle.stand.specs.Opening.{Opening, openRefusal, openedShape}
+use Rattle.stand.specs.Shape.{Ranged, Shape, sections}
+use Rattle.stand.specs.Storage.{Storage, freshState, freshStorage, joined, lengthsOf, storage, storageFits, volumeOf}
+use Rattle.stand.specs.declared.Cell.{Cell}
+use Rattle.stand.specs.declared.volume.Extent.{Extent}
+use Rattle.ledger.specs.Book.{Book, fitsBook, openBook, writeFill, writeOpen, writeSet}
+use Rattle.ledger.specs.Calls as C
+use Rattle.ledger.specs.Reading.{isGiven}
+use Rattle.ledger.specs.Calls.{Call, Four, Op, edited, given, headerAfter, leftBy, opensSheet, opensStorage, orElse, ownAfter, result, sheeted, step, write, wrong}
+use Rattle.ledger.specs.Claim.{LentAnew, Typed}
+use Rattle.ledger.proofs.Lent.{fill-lent, set-lent, write-fill-lent, write-set-lent}
+use Rattle.ledger.proofs.Tells.{Tells, by-opening, open-passed, tells-fill, tells-fresh, tells-set}
+
+abbrev pub call : Option Storage → Option (List ℕ) → Op → Call
+call st l o = record { storage = st; sheet = l; op = o }
+
+-- ---- other lists: 4 turns the call back, unless it opens them
+
+pub storage-wrong : (s : Four) (st : Storage) (l : Option (List ℕ)) (o : Op) → opensStorage o true ≡ false → LentAnew s (call (some st) l o)
+    → wrong (given s (call (some st) l o)) o ≡ true
+unfolding LentAnew
+storage-wrong s st none o n w = ⊎-elim (λ e. e) (λ e. absurd (false≢true (sym n ∙ e))) (w .1)
+storage-wrong s st (some l) o n w = ⊎-elim (λ e. e) (λ e. absurd (false≢true e)) (w .1)
+
+pub sheet-wrong : (s : Four) (l : List ℕ) (o : Op) → opensSheet o true ≡ false → LentAnew s (call none (some l) o)
+    → wrong (given s (call none (some l) o)) o ≡ true
+unfolding LentAnew
+sheet-wrong s l o n w = ⊎-elim (λ e. e) (λ e. absurd (false≢true (sym n ∙ e))) (w .1)
+
+-- ---- opening a stand
+
+module _ (s : Four) (b : Book) (k : Tells (s .state) b) where
+  -- the state that an opening leaves
+  abbrev Left : Option Storage → Opening → Book → Type 0
+  Left st r b′ = Tells (joined (headerAfter (r .answer) (s .state .volume)) (ownAfter st (isGiven (r .answer)) (storage (s .state)) (r .storage))) b′
+
+  abbrev written : Option Storage → Cell → Extent → Book
+  written st o size = writeOpen b (lengthsOf (orElse st (storage (s .state)))) o size
+
+  fresh : (o : Cell) (size : Extent) (st : Storage) → Ranged o → openRefusal (openedShape o size) (lengthsOf st) ≡ 0
+      → Tells (joined (volumeOf (openedShape o size) 0 0) (freshStorage (sections (openedShape o size)))) (openBook (openedShape o size))
+  unfolding freshState openedShape
+  fresh o size st r e = tells-fresh (openedShape o size) (open-passed o size (lengthsOf st) e .0) r
+
+  opening-left : (st : Option Storage) (o : Cell) (size : Extent) → Ranged o
+      → Left st (O.openCall (orElse st (storage (s .state))) o size) (written st o size)
+  opening-left none o size r =
+      by-opening (Left none) (storage (s .state)) b o size (λ n. k) (λ e. fresh o size (storage (s .state)) r e)
+  opening-left (some st) o size r =
+      by-opening (Left (some st)) st b o size (λ n. k) (λ e. fresh o size st r e)
+
+  -- ---- set and fill, lent other storage
+
+  module _ (st : Storage) (e : fitting (joined (s .state .volume) st) ≡ false) where
+    book-fits : fitsBook b (lengthsOf st) ≡ false
+    unfolding fitsBook fitting
+    book-fits = ap (λ (g : Shape). storageFits (sections g) (lengthsOf st)) (sym (k .shape-is)) ∙ e
+
+    set-other : (c : Cell) (v : ℕ) → Tells (joined (setCall (joined (s .state .volume) st) c v .state .volume) (storage (s .state))) (writeSet b (lengthsOf st) c v)
+    set-other c v =
+        rw (set-lent (joined (s .state .volume) st) c v e, write-set-lent b (lengthsOf st) c v book-fits) k
+
+    fill-other : (c d : Cell) (v : ℕ) → Tells (joined (fillCall (joined (s .state .volume) st) c d v .state .volume) (storage (s .state))) (writeFill b (lengthsOf st) c d v)
+    fill-other c d v =
+        rw (fill-lent (joined (s .state .volume) st) c d v e, write-fill-lent b (lengthsOf st) c d v book-fits) k
+
+  -- ---- any call
+
+  abbrev After : Option Storage → Option (List ℕ) → Op → Type 0
+  After st l o = Tells (step s (call st l o) .state) (write b (lengthsOf (storage (given s (call st l o) .state))) o)
+
+  tells-call : (st : Option Storage) (l : Option (List ℕ)) (o : Op) → LentAnew s (call st l o) → After st l o
+  unfolding step leftBy given result C.opened edited sheeted write wrong LentAnew Typed
+  tells-call st l (Op.openStand o size) w = opening-left st o size (w .0)
+  tells-call none l (Op.set c v) w = tells-set (s .state) b c v k
+  tells-call (some st) l (Op.set c v) w = set-other st (not-true _ (storage-wrong s st l (Op.set c v) refl w)) c v
+  tells-call none l (Op.setLent c v) w = tells-set (s .state) b c v k
+  tells-call (some st) l (Op.setLent c v) w = set-other st (not-true _ (storage-wrong s st l (Op.setLent c v) refl w)) c v
+  tells-call none l (Op.fill c d v) w = tells-fill (s .state) b c d v k
+  tells-call (some st) l (Op.fill c d v) w = fill-other st (not-true _ (storage-wrong s st l (Op.fill c d v) refl w)) c d v
+  tells-call none l (Op.openSheet t m) w = k
+  tells-call (some st) l (Op.openSheet t m) w = k
+  tells-call none l (Op.refresh t m) w = k
+  tells-call (some st) l (Op.refresh t m) w = k
+  tells-call none l Op.totals w = k
+  tells-call (some st) l Op.totals w = k
+  tells-call none l (Op.reads r) w = k
+  tells-call (some st) l (Op.reads r) w = k
+
+pub tells-step : (s : Four) (b : Book) (c : Call) → LentAnew s c → Tells (s .state) b
+    → Tells (step s c .state) (write b (lengthsOf (storage (given s c .state))) (c .op))
+tells-step s b c w k = tells-call s b k (c .storage) (c .sheet) (c .op) w

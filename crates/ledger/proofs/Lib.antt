@@ -1,0 +1,21 @@
+-- The claim proved.
+pub mod Accepted
+pub mod Books
+pub mod Claimed
+pub mod Enough
+pub mod Example
+pub mod Kept
+pub mod Lent
+pub mod Measured
+pub mod Nearby
+pub mod Notes
+pub mod Opened
+pub mod Right
+pub mod Rows
+pub mod Same
+pub mod Sane
+pub mod Sheeted
+pub mod Shows
+pub mod Since
+pub mod Tells
+pub mod Trestles

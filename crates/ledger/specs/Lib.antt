@@ -1,0 +1,6 @@
+-- The book, lists of calls, and the claim.
+pub mod Book
+pub mod Calls
+pub mod Claim
+pub mod Reading
+pub mod Trestles

@@ -1,0 +1,2 @@
+-- Laws of `sheet`.
+pub mod Sheets
