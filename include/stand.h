@@ -54,7 +54,7 @@ enum {
     STAND_SHORT_LIST = 11,      /* the panel list is too short: value is the panels needed, the list holds
                                    the first that fit, and the mask is left as by an accepted call */
     STAND_BAD_RATE = 12,        /* pricing: a rate or the cut above its limit, or a finish with no rate */
-    STAND_BAD_PANEL = 13,       /* extents that are not all positive, or whose product is past i32 */
+    STAND_BAD_PANEL = 13,       /* extents not all positive, or a product past i32; a row that no section can have */
     STAND_BAD_ARGUMENT = 100    /* a rule other than 0 and 1, or a side above 5; before all others */
 };
 
@@ -159,6 +159,20 @@ typedef struct {
     stand_extent extent;  /* cells along each axis: 1 along the side's normal */
     uint64_t next;        /* for the next claim */
 } stand_panel_given;
+
+/* The mark after a call on the sheet; where it is refused, the mark given. */
+typedef struct {
+    uint32_t code;
+    uint64_t mark;
+} stand_marked;
+
+/* The sums of a sheet's rows. */
+typedef struct {
+    uint32_t code;
+    uint64_t panels;
+    uint64_t faces;
+    uint64_t cents;
+} stand_sums;
 
 /* ---- opening and editing: these write the five lists ---- */
 
@@ -301,6 +315,32 @@ stand_sliced stand_chunk_slice(stand_volume volume, const uint16_t *cells, size_
 /* Takes the next panel of a slice out of a mask: its slots become 0. Start with `from` = 0, go on with the
    answer's `next` until `given` is 0. A slice with more slots than the mask gives none. Refused: 100. */
 stand_panel_given stand_claim(stand_slice slice, uint16_t *mask, size_t mask_count, size_t from);
+
+/* ---- the price sheet: these write the mask, and the sheet ---- */
+
+/* The sheet has three numbers for each section: panels, faces, cents. `rates` has the rate of finish f at
+   index f, in cents for a face; entry 0 is not used. The cut is added for each panel. No rate that a visible
+   face needs, and no cut, may be above 1,000,000. The mask is work space of any contents; 256 slots are
+   always enough. */
+
+/* Opens a sheet: every section is measured, and the mark is the generation. To be called anew after
+   stand_open. Refused: 100, 3, 4, 10, 12; then nothing is written. */
+stand_marked stand_open_sheet(stand_volume volume, uint64_t mark,
+                              const uint16_t *cells, size_t cells_count,
+                              const uint32_t *rates, size_t rates_count, uint32_t cut, uint32_t rule,
+                              uint16_t *mask, size_t mask_count, uint64_t *sheet, size_t sheet_count);
+
+/* Brings the sheet up to the generation: the sections changed since the mark and those that share a face
+   with one are measured anew, all of them after more changes than sections. Give the mark that the last call
+   answered, and the same rates, cut and rule. Refused: 100, 3, 4, 8, 10, 12; then nothing is written. */
+stand_marked stand_refresh(stand_volume volume, uint64_t mark,
+                           const uint16_t *cells, size_t cells_count,
+                           const uint32_t *log, size_t log_count, const uint64_t *last, size_t last_count,
+                           const uint32_t *rates, size_t rates_count, uint32_t cut, uint32_t rule,
+                           uint16_t *mask, size_t mask_count, uint64_t *sheet, size_t sheet_count);
+
+/* The sums of all rows: the price line. It writes nothing. Refused: 3, 4, 13. */
+stand_sums stand_totals(stand_volume volume, const uint64_t *sheet, size_t sheet_count);
 
 #ifdef __cplusplus
 }

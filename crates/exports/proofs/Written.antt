@@ -12,11 +12,16 @@ use Rattle.mesh.specs.Faces.{Meshed, Meshing, meshingOf}
 use Rattle.mesh.specs.Lay as L
 use Rattle.mesh.specs.Slice as C
 use Rattle.mesh.specs.declared.slice.Slice.{Slice}
+use Rattle.sheet.specs.Calls as P
+use Rattle.sheet.specs.Calls.{Verdict}
+use Rattle.sheet.specs.declared.Marks.{Marks}
 use Rattle.exports.specs.Edit.{Lent, Wrote, editReply, lentOf, lentReply, openReply, repliedEdit, repliedHeader, wroteOf}
 use Rattle.exports.specs.Panels.{meshReply, meshReplyOf, repliedPanels}
+use Rattle.exports.specs.Prices.{repliedMark, sheetReply, sheetReplyOf}
 use Rattle.exports.specs.Slices.{claimReply, claimReplyOf, repliedClaim, repliedSlice, sliceReply, sliceReplyOf}
 use Rattle.exports.specs.declared.edit.Edited.{Edited}
 use Rattle.exports.specs.declared.edit.Opened.{Opened}
+use Rattle.exports.specs.declared.prices.Marked.{Marked}
 use Rattle.exports.specs.declared.slices.PanelGiven.{PanelGiven}
 use Rattle.exports.specs.declared.slices.Sliced.{Sliced}
 use Rattle.exports.specs.declared.reply.Number.{Number}
@@ -35,6 +40,9 @@ sliced-so {m = m} e f = ap (λ r. sliceReplyOf r m) f ∙ ap sliceReply e
 
 pub claimed-so : {a : Option C.Taken} {m : List ℕ} {o : C.Outcome} {r : PanelGiven} → C.outcomeOf a m ≡ o → r ≡ repliedClaim a → claimReplyOf r m ≡ claimReply o
 claimed-so {m = m} e f = ap (λ r. claimReplyOf r m) f ∙ ap claimReply e
+
+pub marked-so : {a : Verdict} {k : Marks} {m l : List ℕ} {o : P.Outcome} {r : Marked} → P.outcomeOf a k m l ≡ o → r ≡ repliedMark a k → sheetReplyOf r m l ≡ sheetReply o
+marked-so {m = m} {l = l} e f = ap (λ r. sheetReplyOf r m l) f ∙ ap sheetReply e
 
 -- ---- over a header that is lent
 

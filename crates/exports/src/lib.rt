@@ -2,6 +2,7 @@
 pub mod edit;
 pub mod lent;
 pub mod panels;
+pub mod prices;
 pub mod read;
 pub mod reply;
 pub mod rule;

@@ -1,2 +1,21 @@
 -- Laws of `sheet`.
+pub mod Anew
+pub mod Begun
+pub mod Calling
+pub mod Checks
+pub mod Codes
+pub mod Gathering
+pub mod Lengths
+pub mod Lines
+pub mod Measuring
+pub mod Picked
+pub mod Picks
+pub mod Places
+pub mod Pricing
 pub mod Sheets
+pub mod Steps
+pub mod Summing
+pub mod Sums
+pub mod Tools
+pub mod Turns
+pub mod Walked
