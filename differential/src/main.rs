@@ -15,6 +15,7 @@ mod openings;
 mod ours;
 mod pair;
 mod panels;
+mod record;
 mod report;
 mod rng;
 mod run;
@@ -32,7 +33,8 @@ differential --calls N    a run of about N calls, in the same shares
 differential --seed S     lists made from another seed
 differential --checked    a shorter run that lists the Rust's panics; build it with --profile checked
 differential --self-test  faults put into our side must be found
-differential --bench      times of both sides";
+differential --bench      times of both sides
+differential --record F   calls with the Rust's answers, written to F for the crate replay";
 
 /// Calls of the three tiers together.
 const CALLS: u64 = 10_002_000;
@@ -50,6 +52,7 @@ struct Args {
     calls: u64,
     seed: u64,
     mode: String,
+    file: String,
 }
 
 fn args() -> Option<Args> {
@@ -57,6 +60,7 @@ fn args() -> Option<Args> {
         calls: CALLS,
         seed: 1,
         mode: String::new(),
+        file: String::new(),
     };
     let mut rest = std::env::args().skip(1);
     while let Some(arg) = rest.next() {
@@ -68,6 +72,10 @@ fn args() -> Option<Args> {
                 parsed.mode = arg;
             }
             "--bench" | "--self-test" => parsed.mode = arg,
+            "--record" => {
+                parsed.file = rest.next()?;
+                parsed.mode = arg;
+            }
             _ => return None,
         }
     }
@@ -86,6 +94,7 @@ fn main() -> ExitCode {
             true
         }
         "--self-test" => selftest::run(args.seed),
+        "--record" => record::run(&args.file, args.seed),
         mode => compare_all(&args, mode == "--checked"),
     };
     if passed {

@@ -94,6 +94,11 @@ fn sized(least: i64, most: i64, edges: &[i32], rng: &mut Rng) -> Extent {
     }
 }
 
+/// At most 4 sections, for the recorded calls.
+pub fn few(rng: &mut Rng) -> Extent {
+    sized(1, 4, &[1, 1, 2, 5, 15, 16, 17, 32, 33, 64], rng)
+}
+
 fn medium(rng: &mut Rng) -> Extent {
     sized(2, 8, &[1, 1, 2, 15, 16, 17, 31, 32, 33, 48, 128], rng)
 }

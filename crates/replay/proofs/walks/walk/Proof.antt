@@ -1,0 +1,82 @@
+-- `replay::walks::walk` meets its contract.
+use Prim.Native.Nat.{_-_, _≤_}
+use borrow.Author.Needs.{needs}
+use Rattle.replay.proofs.walks.walk.Statement.{statement}
+use Rattle.replay.proofs.walks.walk.Tie as tie
+
+abbrev Inv-loop : tie.InvT-loop
+Inv-loop v log last mark sections₀ next₀ turns₀ sections next turns = turns ≤ 5
+
+abbrev μ-loop : tie.MeasureT-loop
+μ-loop v log last mark sections₀ next₀ turns₀ sections next turns = 5 - turns
+
+loop-holds : tie.Need-loop-holds Inv-loop μ-loop
+loop-holds c = search needs
+
+changed-step-requires : tie.Need-changed-step-requires Inv-loop μ-loop
+changed-step-requires c κs = search needs
+
+enum-known-chunk : tie.Need-enum-known-chunk Inv-loop μ-loop
+enum-known-chunk c = search needs
+
+fold-requires : tie.Need-fold-requires Inv-loop μ-loop
+fold-requires c κs = search needs
+
+add-turns : tie.Need-add-turns Inv-loop μ-loop
+add-turns c = search needs
+
+loop-less : tie.Need-loop-less Inv-loop μ-loop
+loop-less c = search needs
+
+loop-again : tie.Need-loop-again Inv-loop μ-loop
+loop-again c = search needs
+
+enum-told : tie.Need-enum-told Inv-loop μ-loop
+enum-told c = search needs
+
+answered-requires : tie.Need-answered-requires Inv-loop μ-loop
+answered-requires c κs = search needs
+
+returns : tie.Need-returns Inv-loop μ-loop
+returns c = search needs
+
+enum-known-n : tie.Need-enum-known-n Inv-loop μ-loop
+enum-known-n c = search needs
+
+cast-answered : tie.Need-cast-answered Inv-loop μ-loop
+cast-answered c = search needs
+
+answered-requires-2 : tie.Need-answered-requires-2 Inv-loop μ-loop
+answered-requires-2 c κs = search needs
+
+returns-2 : tie.Need-returns-2 Inv-loop μ-loop
+returns-2 c = search needs
+
+answered-requires-3 : tie.Need-answered-requires-3 Inv-loop μ-loop
+answered-requires-3 c κs = search needs
+
+returns-3 : tie.Need-returns-3 Inv-loop μ-loop
+returns-3 c = search needs
+
+pub walk-spec : {M : Type 1} → statement M
+walk-spec =
+    tie.close
+    (tie.spec
+    Inv-loop
+    μ-loop
+    loop-holds
+    changed-step-requires
+    enum-known-chunk
+    fold-requires
+    add-turns
+    loop-less
+    loop-again
+    enum-told
+    answered-requires
+    returns
+    enum-known-n
+    cast-answered
+    answered-requires-2
+    returns-2
+    answered-requires-3
+    returns-3)
