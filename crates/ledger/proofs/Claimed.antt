@@ -12,8 +12,8 @@ use Rattle.sheet.specs.Card.{Terms}
 use Rattle.sheet.specs.Rows.{rowAt}
 use Rattle.sheet.specs.declared.Marks.{Marks}
 use Rattle.ledger.specs.Book.{Book, openBook}
-use Rattle.ledger.specs.Calls.{Call, Four, Op, accepted, book, feed, given, run, step, write, wrong}
-use Rattle.ledger.specs.Claim.{All, Claim, Keeps, Lent, LentAnew, Listed, Own, Right, RowsKept, SumsRight, fresh, opensOther}
+use Rattle.ledger.specs.Calls.{Call, Four, Op, accepted, book, feed, given, opensOther, run, step, unfit, write}
+use Rattle.ledger.specs.Claim.{All, Claim, Keeps, Lent, LentAnew, Listed, Own, Right, RowsKept, SumsRight, fresh}
 use Rattle.ledger.proofs.Kept.{call, tells-step}
 use Rattle.ledger.proofs.Measured.{mark-count, row-kept}
 use Rattle.ledger.proofs.Opened.{shows-opened, shows-refreshed, shows-step}
@@ -156,7 +156,7 @@ module _ (g : Shape) (k : Marks) (l : List ℕ) where
         ap (λ (s : Four). rowAt (s .sheet) i) (run-snoc xs c)
         ∙ kept (run start xs) (bookOf xs) (tells-after (h .opened) (h .ranged) xs (p .0)) t m st li (p .1) e i li′ clean lag
 
--- ---- the claim
+-- ---- lists of calls that may also open a stand or a sheet on other lists
 
 sums-right : SumsRight LentAnew
 unfolding SumsRight
@@ -170,18 +170,14 @@ unfolding RowsKept
 rows-kept g k l xs t last m i e =
     subst (λ (c : Call). KeptAt g k l t xs i c) (λ j. call (last .storage) (last .sheet) (sym e j)) (kept-at g k l t xs i m (last .storage) (last .sheet))
 
--- for lists of calls that may also open a stand or a sheet on other lists
-pub claim-anew : Claim LentAnew
-claim-anew = record { sums-right = sums-right; rows-kept = rows-kept }
-
 -- ---- and as demanded
 
 pub lent-anew : (s : Four) (c : Call) → Lent s c → LentAnew s c
 unfolding Lent LentAnew
 lent-anew s c w = (w .0, own (c .storage) (c .sheet) (w .1))
   where
-    own : (st : Option Storage) (l : Option (List ℕ)) → Own st l (wrong (given s c) (c .op) ≡ true)
-        → Own st l ((wrong (given s c) (c .op) ≡ true) ⊎ (opensOther (c .storage) (c .sheet) (c .op) ≡ true))
+    own : (st : Option Storage) (l : Option (List ℕ)) → Own st l (unfit (given s c) (c .op) ≡ true)
+        → Own st l ((unfit (given s c) (c .op) ≡ true) ⊎ (opensOther (c .storage) (c .sheet) (c .op) ≡ true))
     own none none w = tt
     own none (some l) w = inl w
     own (some st) l w = inl w
@@ -194,12 +190,14 @@ all-anew s (c ∷ cs) a = (lent-anew s c (a .0), all-anew (step s c) cs (a .1))
 listed-anew : (g : Shape) (k : Marks) (l : List ℕ) (cs : List Call) → Listed Lent g k l cs → Listed LentAnew g k l cs
 listed-anew g k l cs h = record { opened = h .opened; ranged = h .ranged; lent = all-anew (fresh g k l) cs (h .lent) }
 
--- the claim of demand 3
-pub claim : Claim Lent
+-- demand 3
+pub claim : Claim
 unfolding SumsRight RowsKept
 claim =
     record {
       sums-right = λ g k l xs ys t opening last m m′ eo el h.
-          claim-anew .sums-right g k l xs ys t opening last m m′ eo el (listed-anew g k l (xs ++ (opening ∷ ys) ++ (last ∷ [])) h);
-      rows-kept = λ g k l xs t last m i e h. claim-anew .rows-kept g k l xs t last m i e (listed-anew g k l (xs ++ (last ∷ [])) h);
+          sums-right g k l xs ys t opening last m m′ eo el (listed-anew g k l (xs ++ (opening ∷ ys) ++ (last ∷ [])) h);
+      rows-kept = λ g k l xs t last m i e h. rows-kept g k l xs t last m i e (listed-anew g k l (xs ++ (last ∷ [])) h);
+      sums-right-anew = sums-right;
+      rows-kept-anew = rows-kept;
     }

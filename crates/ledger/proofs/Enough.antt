@@ -26,8 +26,7 @@ use Rattle.sheet.specs.Due.{todo}
 use Rattle.sheet.specs.Row.{priced, slicePriced}
 use Rattle.sheet.specs.declared.Marks.{Marks}
 use Rattle.ledger.specs.Book.{Book}
-use Rattle.ledger.specs.Calls.{Four, Op, accepted, given, isDone, result, sheeted}
-use Rattle.ledger.specs.Claim.{own}
+use Rattle.ledger.specs.Calls.{Four, Op, accepted, given, isDone, own, result, sheeted}
 use Rattle.ledger.proofs.Tells.{Tells}
 
 -- ---- the mask

@@ -11,8 +11,8 @@ use Rattle.stand.specs.declared.Cell.{Cell}
 use Rattle.sheet.specs.Card.{Terms, limit, payable}
 use Rattle.sheet.specs.declared.Marks.{Marks}
 use Rattle.ledger.specs.Book.{Book, noteBook, openBook, sameCell, setBook, writeSet}
-use Rattle.ledger.specs.Calls.{Call, Four, Op, accepted, book, feed, given, run, step, write}
-use Rattle.ledger.specs.Claim.{All, Keeps, KeepsOp, Lent, Right, SumsRight, Typed, fresh, own}
+use Rattle.ledger.specs.Calls.{Call, Four, KeepsOp, Op, Typed, accepted, book, feed, given, own, run, step, write}
+use Rattle.ledger.specs.Claim.{All, Keeps, Lent, Right, SumsRight, fresh}
 use Rattle.ledger.proofs.Books.{by-book}
 use Rattle.ledger.proofs.Claimed.{claim, lent-anew}
 use Rattle.ledger.proofs.Enough.{Enough, Paid, open-accepted, refresh-accepted}

@@ -17,8 +17,8 @@ use Rattle.stand.specs.declared.volume.Extent.{Extent}
 use Rattle.ledger.specs.Book.{Book, fitsBook, openBook, writeFill, writeOpen, writeSet}
 use Rattle.ledger.specs.Calls as C
 use Rattle.ledger.specs.Reading.{isGiven}
-use Rattle.ledger.specs.Calls.{Call, Four, Op, edited, given, headerAfter, leftBy, opensSheet, opensStorage, orElse, ownAfter, result, sheeted, step, write, wrong}
-use Rattle.ledger.specs.Claim.{LentAnew, Typed}
+use Rattle.ledger.specs.Calls.{Call, Four, Op, Typed, edited, given, headerAfter, leftBy, opensSheet, opensStorage, orElse, ownAfter, result, sheeted, step, unfit, write}
+use Rattle.ledger.specs.Claim.{LentAnew}
 use Rattle.ledger.proofs.Lent.{fill-lent, set-lent, write-fill-lent, write-set-lent}
 use Rattle.ledger.proofs.Tells.{Tells, by-opening, open-passed, tells-fill, tells-fresh, tells-set}
 
@@ -27,16 +27,16 @@ call st l o = record { storage = st; sheet = l; op = o }
 
 -- ---- other lists: 4 turns the call back, unless it opens them
 
-pub storage-wrong : (s : Four) (st : Storage) (l : Option (List ℕ)) (o : Op) → opensStorage o true ≡ false → LentAnew s (call (some st) l o)
-    → wrong (given s (call (some st) l o)) o ≡ true
+pub storage-unfit : (s : Four) (st : Storage) (l : Option (List ℕ)) (o : Op) → opensStorage o true ≡ false → LentAnew s (call (some st) l o)
+    → unfit (given s (call (some st) l o)) o ≡ true
 unfolding LentAnew
-storage-wrong s st none o n w = ⊎-elim (λ e. e) (λ e. absurd (false≢true (sym n ∙ e))) (w .1)
-storage-wrong s st (some l) o n w = ⊎-elim (λ e. e) (λ e. absurd (false≢true e)) (w .1)
+storage-unfit s st none o n w = ⊎-elim (λ e. e) (λ e. absurd (false≢true (sym n ∙ e))) (w .1)
+storage-unfit s st (some l) o n w = ⊎-elim (λ e. e) (λ e. absurd (false≢true e)) (w .1)
 
-pub sheet-wrong : (s : Four) (l : List ℕ) (o : Op) → opensSheet o true ≡ false → LentAnew s (call none (some l) o)
-    → wrong (given s (call none (some l) o)) o ≡ true
+pub sheet-unfit : (s : Four) (l : List ℕ) (o : Op) → opensSheet o true ≡ false → LentAnew s (call none (some l) o)
+    → unfit (given s (call none (some l) o)) o ≡ true
 unfolding LentAnew
-sheet-wrong s l o n w = ⊎-elim (λ e. e) (λ e. absurd (false≢true (sym n ∙ e))) (w .1)
+sheet-unfit s l o n w = ⊎-elim (λ e. e) (λ e. absurd (false≢true (sym n ∙ e))) (w .1)
 
 -- ---- opening a stand
 
@@ -81,14 +81,14 @@ module _ (s : Four) (b : Book) (k : Tells (s .state) b) where
   After st l o = Tells (step s (call st l o) .state) (write b (lengthsOf (storage (given s (call st l o) .state))) o)
 
   tells-call : (st : Option Storage) (l : Option (List ℕ)) (o : Op) → LentAnew s (call st l o) → After st l o
-  unfolding step leftBy given result C.opened edited sheeted write wrong LentAnew Typed
+  unfolding step leftBy given result C.opened edited sheeted write unfit LentAnew Typed
   tells-call st l (Op.openStand o size) w = opening-left st o size (w .0)
   tells-call none l (Op.set c v) w = tells-set (s .state) b c v k
-  tells-call (some st) l (Op.set c v) w = set-other st (not-true _ (storage-wrong s st l (Op.set c v) refl w)) c v
+  tells-call (some st) l (Op.set c v) w = set-other st (not-true _ (storage-unfit s st l (Op.set c v) refl w)) c v
   tells-call none l (Op.setLent c v) w = tells-set (s .state) b c v k
-  tells-call (some st) l (Op.setLent c v) w = set-other st (not-true _ (storage-wrong s st l (Op.setLent c v) refl w)) c v
+  tells-call (some st) l (Op.setLent c v) w = set-other st (not-true _ (storage-unfit s st l (Op.setLent c v) refl w)) c v
   tells-call none l (Op.fill c d v) w = tells-fill (s .state) b c d v k
-  tells-call (some st) l (Op.fill c d v) w = fill-other st (not-true _ (storage-wrong s st l (Op.fill c d v) refl w)) c d v
+  tells-call (some st) l (Op.fill c d v) w = fill-other st (not-true _ (storage-unfit s st l (Op.fill c d v) refl w)) c d v
   tells-call none l (Op.openSheet t m) w = k
   tells-call (some st) l (Op.openSheet t m) w = k
   tells-call none l (Op.refresh t m) w = k

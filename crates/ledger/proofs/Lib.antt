@@ -10,6 +10,7 @@ pub mod Measured
 pub mod Nearby
 pub mod Notes
 pub mod Opened
+pub mod Quoted
 pub mod Right
 pub mod Rows
 pub mod Same
@@ -17,5 +18,6 @@ pub mod Sane
 pub mod Sheeted
 pub mod Shows
 pub mod Since
+pub mod Steps
 pub mod Tells
 pub mod Trestles

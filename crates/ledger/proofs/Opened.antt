@@ -17,8 +17,8 @@ use Rattle.sheet.specs.Due.{todo}
 use Rattle.ledger.specs.Book.{Book, writeFill, writeOpen, writeSet}
 use Rattle.ledger.specs.Calls as C
 use Rattle.ledger.specs.Reading.{isGiven}
-use Rattle.ledger.specs.Calls.{Call, Four, Op, accepted, edited, given, isDone, leftBy, orElse, ownAfter, result, sheeted, step, write}
-use Rattle.ledger.specs.Claim.{Keeps, KeepsOp, LentAnew}
+use Rattle.ledger.specs.Calls.{Call, Four, KeepsOp, Op, accepted, edited, given, isDone, leftBy, orElse, ownAfter, result, sheeted, step, write}
+use Rattle.ledger.specs.Claim.{Keeps, LentAnew}
 use Rattle.ledger.proofs.Accepted.{by-measuring}
 use Rattle.ledger.proofs.Kept.{call}
 use Rattle.ledger.proofs.Measured.{shows-after}

@@ -9,28 +9,28 @@ use lib.Dec.{eqb}
 use lib.ListN.{length}
 use Rattle.stand.specs.Refusal.{answer, first, gives}
 use Rattle.stand.specs.Shape.{inside, opens, sections, shapeOf}
+use Rattle.stand.specs.Sides.{sideNumber}
 use Rattle.stand.specs.Storage.{shape}
 use Rattle.stand.specs.declared.Cell.{Cell}
 use Rattle.stand.specs.declared.Face.{Face}
-use Rattle.mesh.specs.Cover.{covers}
+use Rattle.mesh.specs.Cover.{covers, faceSum, facesIn, sumTo}
 use Rattle.mesh.specs.Merge.{all}
-use Rattle.mesh.specs.Panels.{faceOf, partPanels}
 use Rattle.mesh.specs.Part.{sectionPart}
 use Rattle.mesh.specs.Visible.{shown}
 use Rattle.mesh.specs.declared.Quad.{Quad}
 use Rattle.mesh.proofs.Merged as M
-use Rattle.mesh.proofs.Panels.{Faced, part-faces, side-face}
-use Rattle.mesh.proofs.Sections.{sections-count}
-use Rattle.mesh.proofs.Slices.{seen-one}
+use Rattle.mesh.proofs.Panels.{Faced, part-faces, part-sum}
+use Rattle.mesh.proofs.Sections.{part-inside, sections-count}
+use Rattle.mesh.proofs.Slices.{sum-same}
 use Rattle.mesh.proofs.Upto.{all-is}
 use Rattle.sheet.specs.Calls.{totalsCall, totalsRefusal}
 use Rattle.sheet.specs.Card.{Terms}
-use Rattle.sheet.specs.Row.{measured}
+use Rattle.sheet.specs.Row.{measured, rowOf}
 use Rattle.sheet.specs.Rows.{rowAt, sane, sums}
 use Rattle.sheet.specs.declared.Row.{Row}
 use Rattle.ledger.specs.Book.{Book}
 use Rattle.ledger.specs.Calls.{Four}
-use Rattle.ledger.specs.Claim.{Each, Once, Right, bookSums}
+use Rattle.ledger.specs.Claim.{Each, Once, Right, bookSums, panelsOf}
 use Rattle.ledger.proofs.Rows.{sums-same}
 use Rattle.ledger.proofs.Shows.{Clean, Shown, Shows}
 use Rattle.ledger.proofs.Tells.{Tells}
@@ -42,17 +42,25 @@ unfolding Each
 each-as P Q f [] e = tt
 each-as P Q f (q ∷ qs) e = (f q (e .0), each-as P Q f qs (e .1))
 
-pub face-once : (t : Terms) (b : Book) → opens (b .shape) ≡ true → (side : ℕ) → side < 6 → (c : Cell) → inside (b .shape) c ≡ true
-    → (shown (t .beyond) (b .shape) (b .look) side c ≡ 0 → ⊥) → Once t b side c
-face-once t b o side l c h n =
+abbrev Panelled : Terms → Book → Quad → Type 0
+Panelled t b q = (f : Face) (c : Cell) → covers q f c ≡ true → (inside (b .shape) c ≡ true) × (shown (t .beyond) (b .shape) (b .look) (sideNumber f) c ≡ q .voxel .0)
+
+pub face-once : (t : Terms) (b : Book) → opens (b .shape) ≡ true → Once t b
+face-once t b o =
     record {
-      one = sections-count (t .beyond) (b .shape) (b .look) o side l c h ∙ seen-one (shown (t .beyond) (b .shape) (b .look) side c) n;
-      finish = λ i.
+      one = λ side l c h. sections-count (t .beyond) (b .shape) (b .look) o side l c h;
+      each = λ i l.
           each-as (λ q. (f : Face) (c : Cell) → covers q f c ≡ true → Faced (t .beyond) (b .shape) (b .look) (sectionPart (b .shape) i) q f c)
-          (λ q. covers q (faceOf side) c ≡ true → q .voxel .0 ≡ shown (t .beyond) (b .shape) (b .look) side c)
-          (λ q p e. sym (p (faceOf side) c e .held) ∙ ap (λ (s : ℕ). shown (t .beyond) (b .shape) (b .look) s c) (side-face side l))
-          (partPanels (t .beyond) (b .shape) (b .look) (sectionPart (b .shape) i)) (part-faces (t .beyond) (b .shape) (b .look) (sectionPart (b .shape) i));
+          (Panelled t b) (λ q p f c e. (part-inside (b .shape) i c (p f c e .part), p f c e .held))
+          (panelsOf t b i) (part-faces (t .beyond) (b .shape) (b .look) (sectionPart (b .shape) i));
     }
+
+pub faces-sum : (t : Terms) (b : Book)
+    → bookSums t b .faces ≡ sumTo (λ i. facesIn (t .beyond) (b .shape) (b .look) (sectionPart (b .shape) i)) (sections (b .shape))
+unfolding bookSums sums measured rowOf
+faces-sum t b =
+    sum-same (λ i. faceSum (panelsOf t b i)) (λ i. facesIn (t .beyond) (b .shape) (b .look) (sectionPart (b .shape) i)) (sections (b .shape))
+    (λ i l. part-sum (t .beyond) (b .shape) (b .look) (sectionPart (b .shape) i))
 
 -- ---- the rows, and totals
 
@@ -86,4 +94,12 @@ module _ (t : Terms) (s : Four) (b : Book) (k : Tells (s .state) b) (h : Shows t
       ∙ ap (λ (r : Row). gives r) (ap (sums (rowAt (s .sheet))) count-is ∙ sums-are)
 
   pub right : Right t s b
-  right = record { rows = λ i l. row i l .row; sums-are = sums-are; totals-are = totals-are; faces-once = face-once t b (k .opened) }
+  right =
+      record {
+        mark-is = m;
+        rows = λ i l. row i l .row;
+        sums-are = sums-are;
+        totals-are = totals-are;
+        faces-are = faces-sum t b;
+        faces-once = face-once t b (k .opened);
+      }

@@ -15,10 +15,10 @@ use Rattle.sheet.specs.Calls as S
 use Rattle.sheet.specs.Calls.{every, openFits, refreshFits}
 use Rattle.sheet.specs.Card.{Terms}
 use Rattle.sheet.specs.Due.{todo}
-use Rattle.ledger.specs.Calls.{Four, Op, accepted, given, isDone, leftBy, orElse, ownAfter, result, sheeted, step, wrong}
+use Rattle.ledger.specs.Calls.{Four, Op, accepted, given, isDone, leftBy, orElse, ownAfter, result, sheeted, step, unfit}
 use Rattle.ledger.specs.Claim.{LentAnew}
 use Rattle.ledger.proofs.Accepted.{call-measures, call-passed}
-use Rattle.ledger.proofs.Kept.{call, sheet-wrong, storage-wrong}
+use Rattle.ledger.proofs.Kept.{call, sheet-unfit, storage-unfit}
 use Rattle.ledger.proofs.Measured.{Measures, Passed}
 
 -- what 4 asks cannot both fail and pass
@@ -52,14 +52,14 @@ module _ (s : Four) (t : Terms) (m : List ℕ) where
 
   pub open-measures : (st : Option Storage) (l : Option (List ℕ)) → LentAnew s (call st l (Op.openSheet t m)) → accepted s (call st l (Op.openSheet t m)) ≡ true
       → Measures t (s .state) every (orElse l (s .sheet)) (step s (call st l (Op.openSheet t m)))
-  unfolding step leftBy given result sheeted accepted wrong
+  unfolding step leftBy given result sheeted accepted unfit
   open-measures none none w e = open-left (s .sheet) e (step s (call none none (Op.openSheet t m))) refl refl
   open-measures none (some l) w e =
       open-left l e (step s (call none (some l) (Op.openSheet t m)))
       (ap (λ (a : Bool). ownAfter (some l) a (s .sheet) (S.openCall t (s .state .volume) (s .state .cells) (s .marks) m l .sheet)) e) refl
   open-measures (some st) l w e =
       absurd
-      (both-ways _ (storage-wrong s st l (Op.openSheet t m) refl w)
+      (both-ways _ (storage-unfit s st l (Op.openSheet t m) refl w)
       (open-fits (joined (s .state .volume) st) (orElse l (s .sheet)) e))
 
 -- ---- refresh, accepted: on the four's own lists
@@ -99,9 +99,9 @@ module _ (s : Four) (t : Terms) (m : List ℕ) where
 
   pub refresh-measures : (st : Option Storage) (l : Option (List ℕ)) → LentAnew s (call st l (Op.refresh t m)) → accepted s (call st l (Op.refresh t m)) ≡ true
       → Measures t (s .state) (due (s .state)) (s .sheet) (step s (call st l (Op.refresh t m))) × (s .marks .sheet ≤ s .state .volume .generation)
-  unfolding step leftBy given result sheeted accepted wrong
+  unfolding step leftBy given result sheeted accepted unfit
   refresh-measures none none w e =
       (refresh-left e (step s (call none none (Op.refresh t m))) refl refl, ltb-false _ _ (refresh-passed (s .state) (s .sheet) e .behind))
-  refresh-measures none (some l) w e = absurd (both-ways _ (sheet-wrong s l (Op.refresh t m) refl w) (refresh-passed (s .state) l e .fits-is))
+  refresh-measures none (some l) w e = absurd (both-ways _ (sheet-unfit s l (Op.refresh t m) refl w) (refresh-passed (s .state) l e .fits-is))
   refresh-measures (some st) l w e =
-      absurd (both-ways _ (storage-wrong s st l (Op.refresh t m) refl w) (refresh-passed (joined (s .state .volume) st) (orElse l (s .sheet)) e .fits-is))
+      absurd (both-ways _ (storage-unfit s st l (Op.refresh t m) refl w) (refresh-passed (joined (s .state .volume) st) (orElse l (s .sheet)) e .fits-is))

@@ -1,5 +1,6 @@
 -- P1 to P12 hold: worked out by evaluation.
-use mathlib.Core.Path.{_≡_, refl}
+use Prim.Native.Nat.{ℕ}
+use mathlib.Core.Path.{_≡_, refl, ap}
 use mathlib.Core.Bool.{true, false}
 use mathlib.Core.List.{[], _∷_, map}
 use Rattle.arith.specs.Saturate.{saturate}
@@ -15,45 +16,67 @@ use Rattle.stand.specs.Refusal as R
 use Rattle.stand.specs.Shape as S
 use Rattle.stand.specs.Sides as I
 use Rattle.stand.specs.Storage as T
+use Rattle.stand.specs.declared.volume.Extent.{Extent}
 use Rattle.mesh.specs.Faces as F
 use Rattle.mesh.specs.Merge as G
 use Rattle.mesh.specs.Panels as N
 use Rattle.mesh.specs.Part as M
 use Rattle.mesh.specs.Visible as X
 use Rattle.mesh.specs.declared.Quad.{Quad}
-use Rattle.ledger.specs.Trestles.{Trestles, cell, changedFrom, extent, filledBeside, meshOne, openingAt, setBack, sinceMark, standAt, topOfThree}
+use Rattle.ledger.specs.Trestles.{Trestles, cell, changedFrom, extent, filledBeside, headerAt, meshOne, openingAt, setBack, seventeen, sinceMark, standAt, topOfThree}
 
 -- ---- openings
 
-p1 : (l : T.Lengths) → T.storageFits 1 l ≡ true → openingAt 0 (extent 0 0 0) l ≡ 0
-unfolding O.openRefusal O.openedShape O.sizesOf O.sizeOn O.tooMany O.lastInside S.sections S.product S.counted S.chunksIn S.chunksOn S.lastFits R.first
-p1 l h = rw h
+-- what turns an opening from (x, 0, 0) on back, on storage of these lengths
+abbrev refusalAt : ℕ → Extent → T.Lengths → ℕ
+refusalAt x size l = O.openRefusal (O.openedShape (cell x 0 0) size) l
 
-p1-size : O.headerCall (cell 0 0 0) (extent 0 0 0) ≡ R.gives (T.volumeOf (record { origin = cell 0 0 0; size = S.pointOf 1 1 1 }) 0 0)
-unfolding O.openRefusal O.openedShape O.sizesOf O.sizeOn O.tooMany O.lastInside S.sections S.product S.counted S.chunksIn S.chunksOn S.lastFits R.first O.headerCall R.answer
-p1-size = refl
+opening-gives : (st : T.Storage) (x : ℕ) (size : Extent) → refusalAt x size (T.lengthsOf st) ≡ 0
+    → openingAt x size st ≡ R.gives (T.volumeOf (O.openedShape (cell x 0 0) size) 0 0)
+unfolding O.openCall O.opened
+opening-gives st x size e = ap (λ (n : ℕ). O.opened n st (O.openedShape (cell x 0 0) size) .answer) e
 
-p2 : (l : T.Lengths) → T.storageFits 65536 l ≡ true → openingAt 0 (extent 1048576 1 1) l ≡ 0
+p1-passed : (l : T.Lengths) → T.storageFits 1 l ≡ true → refusalAt 0 (extent 0 0 0) l ≡ 0
 unfolding O.openRefusal O.openedShape O.sizesOf O.sizeOn O.tooMany O.lastInside S.sections S.product S.counted S.chunksIn S.chunksOn S.lastFits R.first
-p2 l h = rw h
+p1-passed l h = rw h
 
-p2-more : (l : T.Lengths) → openingAt 0 (extent 1048577 1 1) l ≡ 1
-unfolding O.openRefusal O.openedShape O.sizesOf O.sizeOn O.tooMany O.lastInside S.sections S.product S.counted S.chunksIn S.chunksOn S.lastFits R.first
-p2-more l = refl
+p1 : (st : T.Storage) → T.storageFits 1 (T.lengthsOf st) ≡ true → openingAt 0 (extent 0 0 0) st ≡ R.gives (headerAt 0 (S.pointOf 1 1 1))
+unfolding O.openedShape O.sizesOf O.sizeOn
+p1 st h = opening-gives st 0 (extent 0 0 0) (p1-passed (T.lengthsOf st) h)
 
-p3 : (l : T.Lengths) → T.storageFits 1 l ≡ true → openingAt 2147483647 (extent 1 1 1) l ≡ 0
+p2-passed : (l : T.Lengths) → T.storageFits 65536 l ≡ true → refusalAt 0 (extent 1048576 1 1) l ≡ 0
 unfolding O.openRefusal O.openedShape O.sizesOf O.sizeOn O.tooMany O.lastInside S.sections S.product S.counted S.chunksIn S.chunksOn S.lastFits R.first
-p3 l h = rw h
+p2-passed l h = rw h
 
-p3-more : (l : T.Lengths) → openingAt 2147483647 (extent 2 1 1) l ≡ 2
+p2 : (st : T.Storage) → T.storageFits 65536 (T.lengthsOf st) ≡ true → openingAt 0 (extent 1048576 1 1) st ≡ R.gives (headerAt 0 (S.pointOf 1048576 1 1))
+unfolding O.openedShape O.sizesOf O.sizeOn
+p2 st h = opening-gives st 0 (extent 1048576 1 1) (p2-passed (T.lengthsOf st) h)
+
+p2-more : (st : T.Storage) → openingAt 0 (extent 1048577 1 1) st ≡ R.refused 1
+unfolding O.openCall O.opened O.openRefusal O.openedShape O.sizesOf O.sizeOn O.tooMany O.lastInside S.sections S.product S.counted S.chunksIn S.chunksOn S.lastFits R.first
+p2-more st = refl
+
+p3-passed : (l : T.Lengths) → T.storageFits 1 l ≡ true → refusalAt 2147483647 (extent 1 1 1) l ≡ 0
 unfolding O.openRefusal O.openedShape O.sizesOf O.sizeOn O.tooMany O.lastInside S.sections S.product S.counted S.chunksIn S.chunksOn S.lastFits R.first
-p3-more l = refl
+p3-passed l h = rw h
+
+p3 : (st : T.Storage) → T.storageFits 1 (T.lengthsOf st) ≡ true → openingAt 2147483647 (extent 1 1 1) st ≡ R.gives (headerAt 2147483647 (S.pointOf 1 1 1))
+unfolding O.openedShape O.sizesOf O.sizeOn
+p3 st h = opening-gives st 2147483647 (extent 1 1 1) (p3-passed (T.lengthsOf st) h)
+
+p3-more : (st : T.Storage) → openingAt 2147483647 (extent 2 1 1) st ≡ R.refused 2
+unfolding O.openCall O.opened O.openRefusal O.openedShape O.sizesOf O.sizeOn O.tooMany O.lastInside S.sections S.product S.counted S.chunksIn S.chunksOn S.lastFits R.first
+p3-more st = refl
 
 -- ---- changed since a mark
 
 p4 : sinceMark 15 ≡ R.gives 15
 unfolding O.openRefusal O.openedShape O.sizesOf O.sizeOn O.tooMany O.lastInside S.sections S.product S.counted S.chunksIn S.chunksOn S.lastFits R.first T.freshState T.volumeOf T.freshStorage T.storageFits S.wellFormed S.good S.axisGood S.shapeOf S.opens E.fitting E.edited E.setDef E.put E.changed E.advanced E.solidAfter E.hashAfter E.toggled E.look S.slot S.slotAt S.distance S.over S.rest S.sectionAt S.withinAt S.cellFrom H.termOf H.splitMix H.xorShift W.mul64 L.fillCall L.fillRefusal L.fillDef L.setEach L.andThen L.boxCells L.solidCells L.planeCells L.rowCells L.boxOf L.spanning L.lowCell L.highCell L.lowZ L.highZ L.cellsIn S.clampSpot S.clampOn D.changedSince D.changedStep D.feedRefusal D.nextFrom D.givenAt D.logged R.answer
 p4 = refl
+
+p4-walk : D.walk 2 (seventeen .log) (seventeen .last) 15 2 ≡ 0 ∷ 1 ∷ []
+unfolding O.openRefusal O.openedShape O.sizesOf O.sizeOn O.tooMany O.lastInside S.sections S.product S.counted S.chunksIn S.chunksOn S.lastFits R.first T.freshState T.volumeOf T.freshStorage T.storageFits S.wellFormed S.good S.axisGood S.shapeOf S.opens E.fitting E.edited E.setDef E.put E.changed E.advanced E.solidAfter E.hashAfter E.toggled E.look S.slot S.slotAt S.distance S.over S.rest S.sectionAt S.withinAt S.cellFrom H.termOf H.splitMix H.xorShift W.mul64 L.fillCall L.fillRefusal L.fillDef L.setEach L.andThen L.boxCells L.solidCells L.planeCells L.rowCells L.boxOf L.spanning L.lowCell L.highCell L.lowZ L.highZ L.cellsIn S.clampSpot S.clampOn D.changedSince D.changedStep D.feedRefusal D.nextFrom D.givenAt D.logged R.answer D.walk
+p4-walk = refl
 
 p4-first : changedFrom 15 ≡ R.gives (D.Next.chunk 0 16)
 unfolding O.openRefusal O.openedShape O.sizesOf O.sizeOn O.tooMany O.lastInside S.sections S.product S.counted S.chunksIn S.chunksOn S.lastFits R.first T.freshState T.volumeOf T.freshStorage T.storageFits S.wellFormed S.good S.axisGood S.shapeOf S.opens E.fitting E.edited E.setDef E.put E.changed E.advanced E.solidAfter E.hashAfter E.toggled E.look S.slot S.slotAt S.distance S.over S.rest S.sectionAt S.withinAt S.cellFrom H.termOf H.splitMix H.xorShift W.mul64 L.fillCall L.fillRefusal L.fillDef L.setEach L.andThen L.boxCells L.solidCells L.planeCells L.rowCells L.boxOf L.spanning L.lowCell L.highCell L.lowZ L.highZ L.cellsIn S.clampSpot S.clampOn D.changedSince D.changedStep D.feedRefusal D.nextFrom D.givenAt D.logged R.answer
@@ -129,12 +152,12 @@ pub trestles : Trestles
 trestles =
     record {
       p1 = p1;
-      p1-size = p1-size;
       p2 = p2;
       p2-more = p2-more;
       p3 = p3;
       p3-more = p3-more;
       p4 = p4;
+      p4-walk = p4-walk;
       p4-first = p4-first;
       p5 = p5;
       p6 = p6;

@@ -1,5 +1,6 @@
 -- Lists of calls: document 01, 'The book behind the sums', and demand 3.
 use Prim.Native.Nat.{ℕ, _*_}
+use mathlib.Core.Path.{_≡_}
 use mathlib.Core.Bool.{Bool, true, false, not}
 use mathlib.Core.List.{List, [], _∷_}
 use mathlib.Core.Option.{Option, none, some}
@@ -10,7 +11,7 @@ use Rattle.stand.specs.Fill.{fillCall}
 use Rattle.stand.specs.Opening as O
 use Rattle.stand.specs.Opening.{Opening, openedShape}
 use Rattle.stand.specs.Refusal.{Answer, gives, refused}
-use Rattle.stand.specs.Shape.{sections, shapeOf}
+use Rattle.stand.specs.Shape.{Ranged, sections, shapeOf}
 use Rattle.stand.specs.Storage.{Lengths, State, Storage, joined, lengthsOf, storage, storageFits}
 use Rattle.stand.specs.Storage as St
 use Rattle.stand.specs.declared.Cell.{Cell}
@@ -87,6 +88,10 @@ pub record Call : Type 0 where
   pub sheet : Option (List ℕ)
   pub op : Op
 
+-- a call that is lent the four's own lists
+abbrev pub own : Op → Call
+own o = record { storage = none; sheet = none; op = o }
+
 abbrev pub orElse : {A : Type 0} → Option A → A → A
 orElse none a = a
 orElse (some b) a = b
@@ -95,17 +100,17 @@ orElse (some b) a = b
 unfoldable pub given : Four → Call → Four
 given s c = record { state = joined (s .state .volume) (orElse (c .storage) (storage (s .state))); marks = s .marks; sheet = orElse (c .sheet) (s .sheet) }
 
--- 4's test of what a call is given; a call that only reads or meshes takes any lists
-unfoldable pub wrong : Four → Op → Bool
-wrong s (Op.openStand o size) = not (storageFits (sections (openedShape o size)) (lengthsOf (storage (s .state))))
-wrong s (Op.set c v) = not (fitting (s .state))
-wrong s (Op.setLent c v) = not (fitting (s .state))
-wrong s (Op.fill a b v) = not (fitting (s .state))
-wrong s (Op.openSheet t m) = not (openFits (sections (shapeOf (s .state .volume))) (length (s .state .cells)) (length (s .sheet)))
-wrong s (Op.refresh t m) =
+-- the lists that a call is given are of a length that 4 refuses; a call that only reads or meshes may be given any
+unfoldable pub unfit : Four → Op → Bool
+unfit s (Op.openStand o size) = not (storageFits (sections (openedShape o size)) (lengthsOf (storage (s .state))))
+unfit s (Op.set c v) = not (fitting (s .state))
+unfit s (Op.setLent c v) = not (fitting (s .state))
+unfit s (Op.fill a b v) = not (fitting (s .state))
+unfit s (Op.openSheet t m) = not (openFits (sections (shapeOf (s .state .volume))) (length (s .state .cells)) (length (s .sheet)))
+unfit s (Op.refresh t m) =
     not (refreshFits (sections (shapeOf (s .state .volume))) (length (s .state .cells)) (length (s .state .log)) (length (s .state .last)) (length (s .sheet)))
-wrong s Op.totals = not (eqb (length (s .sheet)) (sections (shapeOf (s .state .volume)) * 3))
-wrong s (Op.reads r) = true
+unfit s Op.totals = not (eqb (length (s .sheet)) (sections (shapeOf (s .state .volume)) * 3))
+unfit s (Op.reads r) = true
 
 -- the list that is the four's after a call: their own, as it left it; another one only where it was opened
 abbrev pub ownAfter : {A : Type 0} → Option A → Bool → A → A → A
@@ -133,6 +138,13 @@ opensSheet (Op.openSheet t m) a = a
 opensSheet (Op.refresh t m) a = false
 opensSheet Op.totals a = false
 opensSheet (Op.reads r) a = false
+
+-- whether a call that is lent other storage, or another sheet, would open that and nothing else
+abbrev pub opensOther : Option Storage → Option (List ℕ) → Op → Bool
+opensOther none none o = false
+opensOther none (some l) o = opensSheet o true
+opensOther (some st) none o = opensStorage o true
+opensOther (some st) (some l) o = false
 
 unfoldable pub leftBy : Four → Call → Result → Four
 leftBy s c r =
@@ -176,3 +188,27 @@ feed s (c ∷ cs) = record { lengths = lengthsOf (storage (given s c .state)); o
 unfoldable pub book : Book → List Fed → Book
 book b [] = b
 book b (e ∷ es) = book (write b (e .lengths) (e .op)) es
+
+-- ---- of the arguments alone, for the claim
+
+-- coordinates of an opening are i32, as the call's type has it
+unfoldable pub Typed : Op → Type 0
+Typed (Op.openStand o size) = Ranged o
+Typed (Op.set c v) = Unit {0}
+Typed (Op.setLent c v) = Unit {0}
+Typed (Op.fill c d v) = Unit {0}
+Typed (Op.openSheet t m) = Unit {0}
+Typed (Op.refresh t m) = Unit {0}
+Typed Op.totals = Unit {0}
+Typed (Op.reads r) = Unit {0}
+
+-- no opening of stand or sheet, and a refresh only with these terms: that opening's card and outside rule
+unfoldable pub KeepsOp : Terms → Op → Type 0
+KeepsOp t (Op.openStand o size) = ⊥
+KeepsOp t (Op.set c v) = Unit {0}
+KeepsOp t (Op.setLent c v) = Unit {0}
+KeepsOp t (Op.fill c d v) = Unit {0}
+KeepsOp t (Op.openSheet u m) = ⊥
+KeepsOp t (Op.refresh u m) = u ≡ t
+KeepsOp t Op.totals = Unit {0}
+KeepsOp t (Op.reads r) = Unit {0}

@@ -2,5 +2,7 @@
 pub mod Book
 pub mod Calls
 pub mod Claim
+pub mod Quoted
 pub mod Reading
+pub mod Steps
 pub mod Trestles

@@ -13,10 +13,12 @@ use Rattle.stand.specs.Storage.{State}
 use Rattle.stand.specs.declared.Cell.{Cell}
 use Rattle.stand.specs.declared.Face.{Face}
 use Rattle.stand.specs.declared.volume.Extent.{Extent}
-use Rattle.mesh.specs.Faces.{Meshed, Meshing, chunkFacesCall, facesCall}
+use Rattle.mesh.specs.Faces.{Meshed, Meshing, chunkFacesCall, facesCall, slotsCall}
 use Rattle.mesh.specs.Lay.{Sliced, sliceCall}
 
--- mask and panel list come with any contents
+-- Each call that is given header or storage; the reader `ChangedChunks` and the walk `Solids` step as stepFrom and solidFrom.
+-- A call that is given none of the four (`Cell::new`, `Slice::claim`, `Quad::merged` and the like) needs no entry.
+-- Mask and panel list come with any contents.
 pub data Reading : Type 0 where
   origin : Reading
   chunks : Reading
@@ -41,12 +43,15 @@ pub data Reading : Type 0 where
   faces : Bool → List ℕ → List ℤ → Reading
   chunkFaces : ℕ → Bool → List ℕ → List ℤ → Reading
   chunkSlice : ℕ → Face → ℕ → Bool → List ℕ → Reading
+  chunkSlots : ℕ → Reading
+  cellsCode : ℕ → Reading
 
 -- what such a call answers; of a meshing call also mask and list, which lie apart
 pub data Told : Type 0 where
   cell : Answer Cell → Told
   extent : Answer Extent → Told
   number : Answer ℕ → Told
+  code : ℕ → Told
   bool : Answer Bool → Told
   list : Answer (List ℕ) → Told
   step : Answer Next → Told
@@ -79,6 +84,8 @@ told s (Reading.solidFrom i) = Told.solid (solidsCall (s .volume) (s .cells) i)
 told s (Reading.faces beyond m l) = Told.meshing (facesCall (s .volume) (s .cells) beyond m l)
 told s (Reading.chunkFaces i beyond m l) = Told.meshing (chunkFacesCall (s .volume) (s .cells) i beyond m l)
 told s (Reading.chunkSlice i f k beyond m) = Told.sliced (sliceCall (s .volume) (s .cells) i f k beyond m)
+told s (Reading.chunkSlots i) = Told.number (slotsCall (s .volume) i)
+told s (Reading.cellsCode n) = Told.code (first (listRules 4096 (s .volume) n))
 
 -- whether it was accepted
 abbrev pub isGiven : {A : Type 0} → Answer A → Bool
@@ -94,6 +101,7 @@ abbrev pub answered : Told → Bool
 answered (Told.cell a) = isGiven a
 answered (Told.extent a) = isGiven a
 answered (Told.number a) = isGiven a
+answered (Told.code n) = true
 answered (Told.bool a) = isGiven a
 answered (Told.list a) = isGiven a
 answered (Told.step a) = isGiven a

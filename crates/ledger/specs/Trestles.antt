@@ -7,15 +7,17 @@ use lib.IntN.{pos}
 use lib.ListN.{replicate}
 use Rattle.stand.specs.Cells.{cellOf}
 use Rattle.stand.specs.Edit.{look, setCall}
-use Rattle.stand.specs.Feed.{Next, changedSince, changedStep}
+use Rattle.stand.specs.Feed.{Next, changedSince, changedStep, walk}
 use Rattle.stand.specs.Fill.{fillCall}
-use Rattle.stand.specs.Opening.{headerCall, openRefusal, openedShape}
+use Rattle.stand.specs.Opening.{openCall, openedShape}
 use Rattle.stand.specs.Read.{digestCall}
 use Rattle.stand.specs.Refusal.{Answer, gives, refused}
 use Rattle.stand.specs.Shape.{pointOf}
-use Rattle.stand.specs.Storage.{Lengths, Outcome, State, freshState, shape, storageFits, volumeOf}
+use Rattle.stand.specs.Storage.{Outcome, State, Storage, freshState, lengthsOf, shape, storageFits, volumeOf}
 use Rattle.stand.specs.declared.Cell.{Cell}
 use Rattle.stand.specs.declared.volume.Extent.{Extent}
+use Rattle.stand.specs.declared.volume.shape.Point.{Point}
+use Rattle.stand.specs.declared.volume.Volume.{Volume}
 use Rattle.mesh.specs.Faces.{Meshed, chunkFacesCall}
 use Rattle.mesh.specs.Panels.{sidePanels}
 use Rattle.mesh.specs.Part.{depthOf, sectionPart}
@@ -31,9 +33,13 @@ extent x y z = record { x = pos x; y = pos y; z = pos z }
 abbrev pub standAt : ℕ → Extent → State
 standAt x size = freshState (openedShape (cell x 0 0) size)
 
--- what opening from (x, 0, 0) on is refused by, on storage of these lengths
-abbrev pub openingAt : ℕ → Extent → Lengths → ℕ
-openingAt x size l = openRefusal (openedShape (cell x 0 0) size) l
+-- what opening from (x, 0, 0) on answers, lent this storage
+abbrev pub openingAt : ℕ → Extent → Storage → Answer Volume
+openingAt x size st = openCall st (cell x 0 0) size .answer
+
+-- the header that an opening from (x, 0, 0) on with this size gives
+abbrev pub headerAt : ℕ → Point → Volume
+headerAt x size = volumeOf (record { origin = cell x 0 0; size = size }) 0 0
 
 -- 17 cells in two sections, filled
 abbrev pub seventeen : State
@@ -72,16 +78,16 @@ topOfThree =
 
 pub record Trestles : Type 0 where
   -- size 0 opens as 1
-  pub p1 : (l : Lengths) → storageFits 1 l ≡ true → openingAt 0 (extent 0 0 0) l ≡ 0
-  pub p1-size : headerCall (cell 0 0 0) (extent 0 0 0) ≡ gives (volumeOf (record { origin = cell 0 0 0; size = pointOf 1 1 1 }) 0 0)
+  pub p1 : (st : Storage) → storageFits 1 (lengthsOf st) ≡ true → openingAt 0 (extent 0 0 0) st ≡ gives (headerAt 0 (pointOf 1 1 1))
   -- 1,048,576 by 1 by 1 opens, 1,048,577 is 1
-  pub p2 : (l : Lengths) → storageFits 65536 l ≡ true → openingAt 0 (extent 1048576 1 1) l ≡ 0
-  pub p2-more : (l : Lengths) → openingAt 0 (extent 1048577 1 1) l ≡ 1
+  pub p2 : (st : Storage) → storageFits 65536 (lengthsOf st) ≡ true → openingAt 0 (extent 1048576 1 1) st ≡ gives (headerAt 0 (pointOf 1048576 1 1))
+  pub p2-more : (st : Storage) → openingAt 0 (extent 1048577 1 1) st ≡ refused 1
   -- at the last x, size 1 opens, 2 is 2
-  pub p3 : (l : Lengths) → storageFits 1 l ≡ true → openingAt 2147483647 (extent 1 1 1) l ≡ 0
-  pub p3-more : (l : Lengths) → openingAt 2147483647 (extent 2 1 1) l ≡ 2
+  pub p3 : (st : Storage) → storageFits 1 (lengthsOf st) ≡ true → openingAt 2147483647 (extent 1 1 1) st ≡ gives (headerAt 2147483647 (pointOf 1 1 1))
+  pub p3-more : (st : Storage) → openingAt 2147483647 (extent 2 1 1) st ≡ refused 2
   -- mark 15 gives sections 0 and 1
   pub p4 : sinceMark 15 ≡ gives 15
+  pub p4-walk : walk 2 (seventeen .log) (seventeen .last) 15 2 ≡ 0 ∷ 1 ∷ []
   pub p4-first : changedFrom 15 ≡ gives (Next.chunk 0 16)
   -- 16 gives 1
   pub p5 : changedFrom 16 ≡ gives (Next.chunk 1 17)
