@@ -2,6 +2,7 @@
 
 use crate::ffi::{Cell, Extent};
 use crate::rng::Rng;
+use crate::sheet::Ask;
 use std::fmt;
 
 #[derive(Clone, Copy, PartialEq, Debug)]
@@ -18,6 +19,8 @@ pub enum Call {
     /// changed_since and its walk.
     Since(u64),
     Merged(Extent),
+    /// A call on the price sheet.
+    Sheet(Ask),
 }
 
 impl fmt::Display for Call {
@@ -33,6 +36,7 @@ impl fmt::Display for Call {
             Self::Section(n) => write!(f, "section {n}"),
             Self::Since(mark) => write!(f, "changed since {mark}"),
             Self::Merged(e) => write!(f, "merged {}", extent(e)),
+            Self::Sheet(ask) => write!(f, "{ask}"),
         }
     }
 }
@@ -50,12 +54,7 @@ pub struct Mix {
 
 /// A list of `count` calls that begins with an opening.
 pub fn list(mix: Mix, count: usize, rng: &mut Rng) -> Vec<Call> {
-    let mut maker = Maker {
-        mix,
-        origin: Cell::default(),
-        size: Extent { x: 1, y: 1, z: 1 },
-        edits: 0,
-    };
+    let mut maker = Maker::new(mix);
     let mut calls = vec![maker.open(rng)];
     while calls.len() < count {
         let before = calls[calls.len() - 1];
@@ -65,14 +64,24 @@ pub fn list(mix: Mix, count: usize, rng: &mut Rng) -> Vec<Call> {
     calls
 }
 
-struct Maker {
+/// Makes calls for the stand that the last opening gave.
+pub struct Maker {
     mix: Mix,
     origin: Cell,
-    size: Extent,
+    pub size: Extent,
     edits: u64,
 }
 
 impl Maker {
+    pub fn new(mix: Mix) -> Self {
+        Self {
+            mix,
+            origin: Cell::default(),
+            size: Extent { x: 1, y: 1, z: 1 },
+            edits: 0,
+        }
+    }
+
     fn next(&mut self, before: Call, rng: &mut Rng) -> Call {
         self.edits += 1;
         match rng.below(100) {
@@ -93,7 +102,7 @@ impl Maker {
         }
     }
 
-    fn open(&mut self, rng: &mut Rng) -> Call {
+    pub fn open(&mut self, rng: &mut Rng) -> Call {
         self.size = (self.mix.sizes)(rng);
         let size = self.size;
         self.origin = Cell {
@@ -111,7 +120,7 @@ impl Maker {
         Call::Open(self.origin, asked)
     }
 
-    fn refused_open(&mut self, rng: &mut Rng) -> Call {
+    pub fn refused_open(&mut self, rng: &mut Rng) -> Call {
         let mut size = [self.size.x, self.size.y, self.size.z];
         let mut origin = [self.origin.x, self.origin.y, self.origin.z];
         let axis = rng.below(3) as usize;
@@ -124,7 +133,7 @@ impl Maker {
         Call::Open(cell_of(origin), extent_of(size))
     }
 
-    fn cell(&self, rng: &mut Rng) -> Cell {
+    pub fn cell(&self, rng: &mut Rng) -> Cell {
         let out = rng.chance(10);
         let axis = rng.below(3);
         let on = |rng: &mut Rng, a: u64, o: i32, n: i32| {
@@ -141,7 +150,7 @@ impl Maker {
         }
     }
 
-    fn fill(&self, rng: &mut Rng) -> Call {
+    pub fn fill(&self, rng: &mut Rng) -> Call {
         let (o, n) = (self.origin, self.size);
         let kind = rng.below(20);
         let reach = self.mix.reach;
@@ -215,7 +224,7 @@ fn outside(o: i32, n: i32, rng: &mut Rng) -> i32 {
     i32_of(rng.pick(&[o - 1, o + n, o - 16, o + n + 16, ends[0], ends[1], far]))
 }
 
-fn finish(rng: &mut Rng) -> u16 {
+pub fn finish(rng: &mut Rng) -> u16 {
     match rng.below(20) {
         0 => 65_535,
         1 => rng.next() as u16,

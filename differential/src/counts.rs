@@ -1,5 +1,7 @@
 //! What a run did: calls, and comparisons by kind.
 
+use crate::sheet::Tally;
+
 #[derive(Clone, Copy)]
 pub enum Kind {
     Answer,
@@ -11,9 +13,11 @@ pub enum Kind {
     Panels,
     Slices,
     Kept,
+    Rows,
+    Sums,
 }
 
-const NAMES: [&str; 9] = [
+const NAMES: [&str; 11] = [
     "answers",
     "header numbers",
     "storage lists",
@@ -23,6 +27,8 @@ const NAMES: [&str; 9] = [
     "panel lists",
     "panel lists by slice and claim",
     "masks and list ends",
+    "sheets, all rows",
+    "totals of sheets",
 ];
 
 #[derive(Clone, Default)]
@@ -33,7 +39,8 @@ pub struct Counts {
     pub changing: u64,
     /// Calls refused.
     pub refused: u64,
-    pub kinds: [u64; 9],
+    pub kinds: [u64; 11],
+    pub sheet: Tally,
 }
 
 impl Counts {
@@ -49,6 +56,7 @@ impl Counts {
         for (mine, theirs) in self.kinds.iter_mut().zip(other.kinds) {
             *mine += theirs;
         }
+        self.sheet.add(&other.sheet);
     }
 
     pub fn comparisons(&self) -> u64 {
@@ -64,5 +72,6 @@ impl Counts {
         for (name, n) in NAMES.iter().zip(self.kinds).filter(|(_, n)| *n > 0) {
             println!("    {n:>13} {name}");
         }
+        self.sheet.print();
     }
 }

@@ -23,9 +23,12 @@ pub enum Fault {
     Mask,
     Tail,
     Claim,
+    /// A refresh that measures only changed sections, and one that adds a row to the old one.
+    Neighbours,
+    Added,
 }
 
-pub const ALL: [Fault; 15] = [
+pub const ALL: [Fault; 17] = [
     Fault::Cell,
     Fault::Hash,
     Fault::Version,
@@ -41,9 +44,16 @@ pub const ALL: [Fault; 15] = [
     Fault::Mask,
     Fault::Tail,
     Fault::Claim,
+    Fault::Neighbours,
+    Fault::Added,
 ];
 
 impl Fault {
+    /// A fault of the price sheet.
+    pub fn of_sheet(self) -> bool {
+        matches!(self, Self::Neighbours | Self::Added)
+    }
+
     /// Storage and header after a set.
     pub fn spoil(self, v: &mut Volume, s: &mut Storage) {
         match self {

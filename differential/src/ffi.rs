@@ -109,6 +109,22 @@ pub struct Claimed {
     pub next: u64,
 }
 
+#[repr(C)]
+#[derive(Clone, Copy, PartialEq, Eq, Debug)]
+pub struct Marked {
+    pub code: u32,
+    pub mark: u64,
+}
+
+#[repr(C)]
+#[derive(Clone, Copy, PartialEq, Eq, Debug)]
+pub struct Sums {
+    pub code: u32,
+    pub panels: u64,
+    pub faces: u64,
+    pub cents: u64,
+}
+
 unsafe extern "C" {
     pub fn stand_open(
         origin: Cell,
@@ -257,4 +273,37 @@ unsafe extern "C" {
         mask_len: usize,
     ) -> Sliced;
     pub fn stand_claim(slice: Slice, mask: *mut u16, mask_len: usize, from: usize) -> Claimed;
+    pub fn stand_open_sheet(
+        volume: Volume,
+        mark: u64,
+        cells: *const u16,
+        cells_len: usize,
+        rates: *const u32,
+        rates_len: usize,
+        cut: u32,
+        rule: u32,
+        mask: *mut u16,
+        mask_len: usize,
+        sheet: *mut u64,
+        sheet_len: usize,
+    ) -> Marked;
+    pub fn stand_refresh(
+        volume: Volume,
+        mark: u64,
+        cells: *const u16,
+        cells_len: usize,
+        log: *const u32,
+        log_len: usize,
+        last: *const u64,
+        last_len: usize,
+        rates: *const u32,
+        rates_len: usize,
+        cut: u32,
+        rule: u32,
+        mask: *mut u16,
+        mask_len: usize,
+        sheet: *mut u64,
+        sheet_len: usize,
+    ) -> Marked;
+    pub fn stand_totals(volume: Volume, sheet: *const u64, sheet_len: usize) -> Sums;
 }

@@ -20,6 +20,7 @@ mod report;
 mod rng;
 mod run;
 mod selftest;
+mod sheet;
 mod shrink;
 mod theirs;
 mod tiers;
@@ -32,6 +33,7 @@ differential              the whole run
 differential --calls N    a run of about N calls, in the same shares
 differential --seed S     lists made from another seed
 differential --checked    a shorter run that lists the Rust's panics; build it with --profile checked
+differential --sheet      the price sheet's part alone
 differential --self-test  faults put into our side must be found
 differential --bench      times of both sides
 differential --record F   calls with the Rust's answers, written to F for the crate replay";
@@ -71,7 +73,7 @@ fn args() -> Option<Args> {
                 parsed.calls = CHECKED;
                 parsed.mode = arg;
             }
-            "--bench" | "--self-test" => parsed.mode = arg,
+            "--bench" | "--self-test" | "--sheet" => parsed.mode = arg,
             "--record" => {
                 parsed.file = rest.next()?;
                 parsed.mode = arg;
@@ -94,6 +96,7 @@ fn main() -> ExitCode {
             true
         }
         "--self-test" => selftest::run(args.seed),
+        "--sheet" => sheet_alone(&args),
         "--record" => record::run(&args.file, args.seed),
         mode => compare_all(&args, mode == "--checked"),
     };
@@ -102,6 +105,11 @@ fn main() -> ExitCode {
     } else {
         ExitCode::FAILURE
     }
+}
+
+/// A part's calls in a run cut to `asked` calls of the tiers.
+fn share(calls: u64, asked: u64) -> u64 {
+    (u128::from(calls) * u128::from(asked) / u128::from(CALLS)) as u64
 }
 
 fn compare_all(args: &Args, catch: bool) -> bool {
@@ -117,17 +125,33 @@ fn compare_all(args: &Args, catch: bool) -> bool {
     }
     for tier in tiers::TIERS {
         let mut tier = tier;
-        let calls = u128::from(tier.calls) * u128::from(args.calls) / u128::from(CALLS);
-        tier.calls = calls as u64;
+        tier.calls = share(tier.calls, args.calls);
         report.part(tier.name, || tiers::run_tier(&tier, args.seed, catch));
     }
     report.part("opening at its limits", || openings::run(catch));
+    if !catch {
+        sheets(args, &mut report);
+    }
     if catch {
         report.panics();
     } else {
-        let calls = u128::from(DAMAGED) * u128::from(args.calls) / u128::from(CALLS);
-        damaged(calls as u64, args.seed, &mut report);
+        damaged(share(DAMAGED, args.calls), args.seed, &mut report);
     }
+    report.end()
+}
+
+fn sheets(args: &Args, report: &mut Report) {
+    let calls = share(sheet::CALLS, args.calls);
+    report.part("document 01's example of the price sheet", sheet::example);
+    report.part("price sheets of up to 27 sections", || {
+        sheet::run(calls, args.seed)
+    });
+}
+
+fn sheet_alone(args: &Args) -> bool {
+    println!("seed {}", args.seed);
+    let mut report = Report::new(args.seed);
+    sheets(args, &mut report);
     report.end()
 }
 

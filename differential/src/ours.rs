@@ -268,3 +268,79 @@ pub fn chunk_slice(
 pub fn claim(slice: ffi::Slice, mask: &mut [u16], from: usize) -> ffi::Claimed {
     unsafe { ffi::stand_claim(slice, mask.as_mut_ptr(), mask.len(), from) }
 }
+
+/// What a call on the sheet is given: rates by finish, cut, outside rule.
+#[derive(Clone, Copy)]
+pub struct Terms<'a> {
+    pub rates: &'a [u32],
+    pub cut: u32,
+    pub rule: u32,
+}
+
+pub fn open_sheet(
+    v: Volume,
+    mark: u64,
+    cells: &[u16],
+    terms: Terms,
+    mask: &mut [u16],
+    sheet: &mut [u64],
+) -> ffi::Marked {
+    unsafe {
+        ffi::stand_open_sheet(
+            v,
+            mark,
+            cells.as_ptr(),
+            cells.len(),
+            terms.rates.as_ptr(),
+            terms.rates.len(),
+            terms.cut,
+            terms.rule,
+            mask.as_mut_ptr(),
+            mask.len(),
+            sheet.as_mut_ptr(),
+            sheet.len(),
+        )
+    }
+}
+
+/// The lists that a refresh reads.
+#[derive(Clone, Copy)]
+pub struct Read<'a> {
+    pub cells: &'a [u16],
+    pub log: &'a [u32],
+    pub last: &'a [u64],
+}
+
+pub fn refresh(
+    v: Volume,
+    mark: u64,
+    read: Read,
+    terms: Terms,
+    mask: &mut [u16],
+    sheet: &mut [u64],
+) -> ffi::Marked {
+    unsafe {
+        ffi::stand_refresh(
+            v,
+            mark,
+            read.cells.as_ptr(),
+            read.cells.len(),
+            read.log.as_ptr(),
+            read.log.len(),
+            read.last.as_ptr(),
+            read.last.len(),
+            terms.rates.as_ptr(),
+            terms.rates.len(),
+            terms.cut,
+            terms.rule,
+            mask.as_mut_ptr(),
+            mask.len(),
+            sheet.as_mut_ptr(),
+            sheet.len(),
+        )
+    }
+}
+
+pub fn totals(v: Volume, sheet: &[u64]) -> ffi::Sums {
+    unsafe { ffi::stand_totals(v, sheet.as_ptr(), sheet.len()) }
+}

@@ -7,6 +7,7 @@ use crate::ffi::{Cell, Extent, Number, Volume};
 use crate::guard::guarded;
 use crate::model;
 use crate::ours::{self, Storage};
+use crate::sheet::Sheet;
 use crate::theirs::{self, Theirs};
 use std::fmt::Debug;
 
@@ -45,6 +46,7 @@ pub struct Pair {
     pub mask: Vec<u16>,
     pub list: Vec<i32>,
     pub turn: usize,
+    pub sheet: Sheet,
 }
 
 impl Pair {
@@ -64,6 +66,7 @@ impl Pair {
             mask: Vec::new(),
             list: Vec::new(),
             turn: 0,
+            sheet: Sheet::default(),
         }
     }
 
@@ -139,6 +142,7 @@ impl Pair {
             Call::Section(chunk) => self.section(chunk),
             Call::Since(mark) => self.since(mark),
             Call::Merged(extent) => self.merged(extent),
+            Call::Sheet(ask) => self.ask(ask),
         }
     }
 
@@ -153,6 +157,8 @@ impl Pair {
         self.same(Kind::Answer, "open", opened.code == 0, rust.is_some())?;
         match rust {
             Some(theirs) => {
+                self.sheet.edited();
+                self.sheet.close();
                 self.theirs = theirs;
                 self.volume = opened.volume;
                 self.storage = storage;
@@ -210,7 +216,10 @@ impl Pair {
         self.same(Kind::Answer, "fill", (done.code, done.changed), (0, rust))
     }
 
-    fn tally(&mut self, changed: bool, refused: bool) {
+    pub fn tally(&mut self, changed: bool, refused: bool) {
+        if changed {
+            self.sheet.edited();
+        }
         self.counts.changing += u64::from(changed);
         self.counts.refused += u64::from(refused);
     }

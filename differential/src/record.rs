@@ -93,7 +93,7 @@ impl Recorder {
                 self.push("section", Block::new(5).section(section), answer);
             }
             Call::Since(mark) => self.since(mark),
-            Call::Merged(_) => {}
+            Call::Merged(_) | Call::Sheet(_) => {}
         }
     }
 

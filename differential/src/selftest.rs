@@ -1,41 +1,66 @@
 //! Faults put into our side: each must be found, and its list shrunk to a few calls.
 
-use crate::fault;
+use crate::calls::Call;
+use crate::fault::{self, Fault};
 use crate::many::run_lists;
 use crate::run::{self, ALL, Options};
+use crate::sheet;
 use crate::shrink::shrink;
 use crate::tiers::{TIERS, calls_of};
 
-/// Most calls that a shrunk list may have: the fault's trigger is one set.
-const MOST: usize = 2;
+/// Lists in which a fault must be found.
+const LISTS: u64 = 100;
+
+/// How a fault is looked for.
+struct Way {
+    options: Options,
+    make: fn(u64, u64) -> Vec<Call>,
+    /// Most calls that a shrunk list may have: the trigger is one set, and a sheet is opened and refreshed around it.
+    most: usize,
+}
+
+fn way(fault: Fault) -> Way {
+    if fault.of_sheet() {
+        return Way {
+            options: sheet::OPTIONS,
+            make: |seed, list| sheet::calls_of(sheet::CALLS, seed, list),
+            most: 4,
+        };
+    }
+    Way {
+        options: ALL,
+        make: |seed, list| calls_of(&TIERS[0], seed, list),
+        most: 2,
+    }
+}
 
 pub fn run(seed: u64) -> bool {
-    let mut passed = true;
-    for fault in fault::ALL {
-        let options = Options {
-            fault: Some(fault),
-            ..ALL
-        };
-        let summary = run_lists(100, options, |list| calls_of(&TIERS[0], seed, list));
-        let Some(found) = summary.found else {
-            println!("{fault:?}: NOT FOUND");
-            passed = false;
-            continue;
-        };
-        let small = shrink(&found.calls, |c| run::run(c, options).difference.is_some());
-        let shown: Vec<String> = small.iter().map(ToString::to_string).collect();
-        let word = if small.len() <= MOST {
-            ""
-        } else {
-            ": TOO LONG"
-        };
-        println!(
-            "{fault:?}: found ({}), shrunk from {} calls to: {}{word}",
-            found.difference.0,
-            found.calls.len(),
-            shown.join("; ")
-        );
-        passed &= small.len() <= MOST;
-    }
-    passed
+    fault::ALL.into_iter().fold(true, |passed, fault| {
+        let found = look_for(fault, seed);
+        passed && found
+    })
+}
+
+fn look_for(fault: Fault, seed: u64) -> bool {
+    let way = way(fault);
+    let options = Options {
+        fault: Some(fault),
+        ..way.options
+    };
+    let summary = run_lists(LISTS, options, |list| (way.make)(seed, list));
+    let Some(found) = summary.found else {
+        println!("{fault:?}: NOT FOUND");
+        return false;
+    };
+    let small = shrink(&found.calls, |c| run::run(c, options).difference.is_some());
+    let shown: Vec<String> = small.iter().map(ToString::to_string).collect();
+    let short = small.len() <= way.most;
+    println!(
+        "{fault:?}: found ({}), shrunk from {} calls to: {}{}",
+        found.difference.0,
+        found.calls.len(),
+        shown.join("; "),
+        if short { "" } else { ": TOO LONG" }
+    );
+    short
 }

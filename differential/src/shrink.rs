@@ -2,6 +2,7 @@
 
 use crate::calls::Call;
 use crate::ffi::{Cell, Extent};
+use crate::sheet;
 use std::time::{Duration, Instant};
 
 /// How long it goes on.
@@ -188,6 +189,7 @@ fn smaller(call: Call) -> Vec<Call> {
             .into_iter()
             .map(|e| Call::Merged(extent(e)))
             .collect(),
+        Call::Sheet(ask) => sheet::smaller(ask).into_iter().map(Call::Sheet).collect(),
     }
 }
 

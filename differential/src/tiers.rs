@@ -103,6 +103,14 @@ fn medium(rng: &mut Rng) -> Extent {
     sized(2, 8, &[1, 1, 2, 15, 16, 17, 31, 32, 33, 48, 128], rng)
 }
 
+/// Up to 27 sections, most of them thin, for the price sheet.
+pub fn sheeted(rng: &mut Rng) -> Extent {
+    if rng.chance(4) {
+        return turned([48, 48, rng.pick(&[33, 48])], rng);
+    }
+    sized(2, 27, &[1, 1, 1, 2, 3, 16, 17, 17, 33, 48, 432], rng)
+}
+
 fn large(rng: &mut Rng) -> Extent {
     sized(
         9,
