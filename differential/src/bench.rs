@@ -1,5 +1,6 @@
 //! The benchmark: the same work on both sides, in turns, best of several.
 
+mod refresh;
 mod rows;
 mod stand;
 
@@ -76,6 +77,7 @@ pub fn run() {
     rows::reads(&mut print);
     rows::sections(&mut print);
     rows::wholes(&mut print);
+    refresh::table();
 }
 
 fn print(row: Row) {
