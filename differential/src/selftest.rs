@@ -15,7 +15,7 @@ const LISTS: u64 = 100;
 struct Way {
     options: Options,
     make: fn(u64, u64) -> Vec<Call>,
-    /// Most calls that a shrunk list may have: the trigger is one set, and a sheet is opened and refreshed around it.
+    /// Most calls that a shrunk list may have: the trigger is one set, a sheet opens and refreshes.
     most: usize,
 }
 

@@ -1,9 +1,10 @@
-//! The price sheet: opened, refreshed and totalled after random edits, each row held to the Rust's panels.
+//! The price sheet after random edits, each row held to the Rust's panels.
 
 mod attempt;
 mod card;
 mod due;
 mod example;
+mod harm;
 mod list;
 mod measured;
 mod run;
@@ -14,11 +15,12 @@ mod trial;
 
 pub use card::Card;
 pub use example::example;
+pub use harm::Harm;
 pub use list::calls_of;
 pub use run::{CALLS, OPTIONS, run};
 pub use smaller::smaller;
 pub use tally::Tally;
-pub use trial::{Ask, Harm, Trial};
+pub use trial::{Ask, Trial};
 
 use crate::pair::{Difference, Pair, Same};
 use attempt::Job;
@@ -61,12 +63,7 @@ impl Pair {
     }
 
     fn open_sheet(&mut self, card: Card, rule: u32) -> Same {
-        let n = self.storage.log.len();
-        let mut rows = if self.sheet.open {
-            self.sheet.rows.clone()
-        } else {
-            dirty(n)
-        };
+        let mut rows = self.rows_or_dirt();
         let job = Job::opening(self.volume, self.sheet.mark, card, rule);
         let code = self.around(job, &mut rows)?;
         if code == 0 {
@@ -89,6 +86,14 @@ impl Pair {
         let mut rows = s.rows.clone();
         let code = self.around(job, &mut rows)?;
         self.take(code, rows)
+    }
+
+    /// A copy of the sheet, or rows of anything where none is open.
+    fn rows_or_dirt(&self) -> Vec<u64> {
+        if self.sheet.open {
+            return self.sheet.rows.clone();
+        }
+        dirty(self.storage.log.len())
     }
 
     /// The call with a mask too short and over a sheet of markers, on copies; then as it is.

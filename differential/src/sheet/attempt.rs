@@ -1,6 +1,6 @@
 //! One call that measures, and all that it must leave.
 
-use super::{Card, Harm, Trial, dirty};
+use super::{Card, Harm, Trial};
 use crate::counts::Kind;
 use crate::fault::Fault;
 use crate::ffi::{Marked, Volume};
@@ -46,46 +46,11 @@ impl Job {
     }
 }
 
-impl Harm {
-    pub fn header(self, mut v: Volume) -> Volume {
-        let axis = |e: &mut crate::ffi::Extent, a: usize, n: fn(i32) -> i32| match a {
-            0 => e.x = n(e.x),
-            1 => e.y = n(e.y),
-            _ => e.z = n(e.z),
-        };
-        match self {
-            Self::Chunks(a) => axis(&mut v.chunks, a, |n| n + 1),
-            Self::Size(a) => axis(&mut v.size, a, |_| 0),
-            _ => {}
-        }
-        v
-    }
-
-    pub fn sheet(self, rows: &mut Vec<u64>) {
-        match self {
-            Self::SheetShort => {
-                rows.pop();
-            }
-            Self::SheetLong => rows.push(7),
-            _ => {}
-        }
-    }
-
-    /// A list with its last entry left out where the harm is to it.
-    fn cut<T>(self, own: Self, list: &[T]) -> &[T] {
-        &list[..list.len() - usize::from(self == own)]
-    }
-}
-
 impl Pair {
     /// A call on a copy of the sheet, or on rows of anything.
     pub(super) fn trial(&mut self, t: Trial) -> Same {
         let now = self.volume.generation;
-        let mut rows = if self.sheet.open {
-            self.sheet.rows.clone()
-        } else {
-            dirty(self.storage.log.len())
-        };
+        let mut rows = self.rows_or_dirt();
         t.harm.sheet(&mut rows);
         let job = Job {
             refresh: t.refresh,
@@ -129,16 +94,16 @@ impl Pair {
         let measured = if code == 0 { due } else { Vec::new() };
         self.rows_left(&job, &measured, &before, rows)?;
         let cleared = if code == 0 { want } else { 0 };
-        let (first, rest) = mask.split_at(cleared);
-        self.holds(
-            "the mask's first slots are 0",
-            first.iter().all(|n| *n == 0),
-        )?;
-        self.holds(
-            "the mask's other slots keep",
-            rest.iter().all(|n| *n == DIRT),
-        )?;
+        self.mask_left(&mask, cleared)?;
         Ok(code)
+    }
+
+    fn mask_left(&mut self, mask: &[u16], cleared: usize) -> Same {
+        let (first, rest) = mask.split_at(cleared);
+        let zero = first.iter().all(|n| *n == 0);
+        let kept = rest.iter().all(|n| *n == DIRT);
+        self.holds("the mask's first slots are 0", zero)?;
+        self.holds("the mask's other slots keep", kept)
     }
 
     fn measure(&self, job: &Job, mask: &mut [u16], rows: &mut [u64]) -> Marked {

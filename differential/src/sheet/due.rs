@@ -1,6 +1,5 @@
 //! Which sections a call measures, what 10 wants of its mask, and by what it is refused.
 
-use super::Harm;
 use super::attempt::Job;
 use super::card::LIMIT;
 use crate::ffi::Volume;
@@ -58,7 +57,7 @@ impl Pair {
         let rules = [
             (job.rule > 1, 100),
             (!model::formed(job.volume), 3),
-            (job.lends_wrong(), 4),
+            (job.harm.to_list(job.refresh), 4),
             (ahead, 8),
             (mask < self.sheet_want(due), 10),
             (job.card.cut > LIMIT, 12),
@@ -72,16 +71,5 @@ impl Pair {
             }
         }
         Ok(0)
-    }
-}
-
-impl Job {
-    /// A list of another length, of those that the call is lent.
-    fn lends_wrong(&self) -> bool {
-        match self.harm {
-            Harm::CellsShort | Harm::SheetShort | Harm::SheetLong => true,
-            Harm::LogShort | Harm::LastShort => self.refresh,
-            _ => false,
-        }
     }
 }

@@ -1,7 +1,7 @@
 //! Random lists: edits of a stand, and calls on its sheet between them.
 
-use super::Card;
-use super::trial::{Ask, By, Harm, Sum, Trial};
+use super::trial::{Ask, By, Sum, Trial};
+use super::{Card, Harm};
 use crate::calls::{Call, Maker, Mix, finish};
 use crate::ffi::Extent;
 use crate::ours::sections_of;

@@ -1,6 +1,6 @@
 //! Calls on the sheet, as they stand in lists.
 
-use super::Card;
+use super::{Card, Harm};
 use std::fmt;
 
 #[derive(Clone, Copy, PartialEq, Debug)]
@@ -12,21 +12,6 @@ pub enum Ask {
     Trial(Trial),
     /// Totals of a copy.
     Sum(Sum),
-}
-
-/// What is wrong with the header or with a list lent.
-#[derive(Clone, Copy, PartialEq, Debug)]
-pub enum Harm {
-    None,
-    /// One section more along an axis.
-    Chunks(usize),
-    /// A size of 0 along an axis.
-    Size(usize),
-    CellsShort,
-    LogShort,
-    LastShort,
-    SheetShort,
-    SheetLong,
 }
 
 #[derive(Clone, Copy, PartialEq, Debug)]
