@@ -6,6 +6,7 @@ mod generator;
 mod lent;
 mod merged;
 mod openings;
+mod prices;
 mod print;
 mod refusals;
 mod set_back;
@@ -32,4 +33,7 @@ fn main() {
     lent::show_lists();
     refusals::show_refusals();
     merged::show_merged();
+    prices::show_edge();
+    prices::show_beside();
+    prices::show_corner();
 }
