@@ -8,7 +8,7 @@ use borrow.Author.Tests.{eq-eqb, eqb-false, eqb-true, ne-eqb}
 use lib.Dec.{eqb}
 use Rattle.stand.specs.Shape.{Shape, chunkOf}
 use Rattle.stand.specs.declared.Cell.{Cell}
-use Rattle.stand.proofs.Feed.{by-test}
+use Rattle.stand.proofs.Tests.{by-test}
 use Rattle.ledger.specs.Book.{Book, Changed, noteBook, sameCell, setAll, setBook}
 use Rattle.ledger.proofs.Same.{same-cells}
 

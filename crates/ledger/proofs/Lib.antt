@@ -14,7 +14,6 @@ pub mod Quoted
 pub mod Right
 pub mod Rows
 pub mod Same
-pub mod Sane
 pub mod Sheeted
 pub mod Shows
 pub mod Since

@@ -10,8 +10,8 @@ use borrow.Author.Tests.{eq-eqb, eqb-false, eqb-true, ltb-false, ltb-true, ne-eq
 use lib.Dec.{eqb, ltb}
 use lib.ListN.{length, getD, replicate, set}
 use lib.Seq.{getD-set-other, getD-set-same}
-use Rattle.stand.proofs.Feed.{by-test}
 use Rattle.stand.proofs.Kept.{zeros}
+use Rattle.stand.proofs.Tests.{by-test}
 
 pub record Notes (n k : ℕ) (log last : List ℕ) (noted : ℕ → ℕ) : Type 0 where
   pub noted-in : (j : ℕ) → 1 ≤ j → j ≤ k → noted j < n

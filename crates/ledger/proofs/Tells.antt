@@ -16,12 +16,12 @@ use Rattle.stand.specs.Storage.{Lengths, Outcome, State, Storage, freshState, f
 use Rattle.stand.specs.declared.Cell.{Cell}
 use Rattle.stand.specs.declared.volume.Extent.{Extent}
 use Rattle.stand.proofs.Edit.{by-put, changed-fitting, changed-formed, fitting-lengths, settable}
-use Rattle.stand.proofs.Feed.{by-test}
 use Rattle.stand.proofs.Fill.{box-inside}
 use Rattle.stand.proofs.Kept.{fresh-sound, zeros}
 use Rattle.stand.proofs.Opening.{opened-opens}
 use Rattle.stand.proofs.Refusal.{passes}
 use Rattle.stand.proofs.Shape.{chunk-lt, slot-chunk, slot-inj, slot-lt}
+use Rattle.stand.proofs.Tests.{by-test}
 use Rattle.ledger.specs.Book.{Book, fitsBook, noteBook, openBook, sameCell, setAll, setBook, unless, writeFill, writeOpen, writeSet}
 use Rattle.ledger.proofs.Books.{book-other, book-same, set-shape-kept}
 use Rattle.ledger.proofs.Notes.{Notes, notes-more, notes-none}

@@ -11,8 +11,9 @@ use borrow.Author.Tests.{eqb-true, eq-eqb}
 use lib.Dec.{eqb}
 use lib.ListN.{getD, set, length, length-set}
 use lib.Seq.{getD-set-other}
+use Rattle.stand.proofs.Tests.{both}
 use Rattle.mesh.specs.Merge.{Dir, upto, full, grow, rep, clearBox, Member, size, Box, alike, boxAt}
-use Rattle.mesh.proofs.Upto.{upto-of, upto-some, all-is, all-pass, both-true, row-fits}
+use Rattle.mesh.proofs.Upto.{upto-of, upto-some, all-is, all-pass, row-fits}
 
 -- ---- what passes
 
@@ -241,13 +242,13 @@ cut-out lim key n m q geo l seen =
     let u = grow-under ok q [] [] (lim q) tt in
     let h : ok q ≡ true = alike-self key m q in
     let f = grow-full ok q [] (lim q) h in
-    let was : (r : ℕ) → Member q ds r → getD m r 0 ≡ getD m q 0 = λ r b. eqb-true (getD m r 0) (getD m q 0) (both-true (eqb (key r) (key q)) (eqb (getD m r 0) (getD m q 0)) (full-pass ok q ds r f b) .1) in
+    let was : (r : ℕ) → Member q ds r → getD m r 0 ≡ getD m q 0 = λ r b. eqb-true (getD m r 0) (getD m q 0) (both (eqb (key r) (key q)) (eqb (getD m r 0) (getD m q 0)) (full-pass ok q ds r f b) .1) in
     record {
       seen = seen;
       start-in = some-member q ds (grow-some ok q [] (lim q) h tt (geo .some q l));
       inside = λ r b. geo .within q r l (under-member ds (onto [] (lim q)) q r u b);
       was = was;
-      keyed = λ r b. eqb-true (key r) (key q) (both-true (eqb (key r) (key q)) (eqb (getD m r 0) (getD m q 0)) (full-pass ok q ds r f b) .0);
+      keyed = λ r b. eqb-true (key r) (key q) (both (eqb (key r) (key q)) (eqb (getD m r 0) (getD m q 0)) (full-pass ok q ds r f b) .0);
       gone = λ r b. clear-in ds q r m b;
       rest = λ r b. clear-out ds q r m b;
       fewer = clear-count ds q m (under-radix ds (onto [] (lim q)) u (geo .radix q l)) (λ r b z. seen (sym (was r b) ∙ z));

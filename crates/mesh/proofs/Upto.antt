@@ -1,6 +1,6 @@
 -- What `upto` and `all` find, and rows of a mask.
 use mathlib.Core.Path.{_≡_, refl, ap, _∙_}
-use mathlib.Core.Bool.{Bool, true, false, cond, _&&_}
+use mathlib.Core.Bool.{Bool, true, false, cond}
 use Prim.Native.Nat.{ℕ, zero, suc, _+_, _*_, _≤_, _<_, suc-le-suc, zero-le}
 use native.Mathlib.Nat.{le-of-suc-le-suc, not-suc-le-zero, suc-mul, mul-le-mul-right, le-refl}
 use native.Mathlib.Omega.{arith}
@@ -60,10 +60,6 @@ all-is f n h = eq-eqb _ _ (upto-all f n h)
 pub all-pass : (f : ℕ → Bool) (n i : ℕ) → all f n ≡ true → i < n → f i ≡ true
 unfolding all
 all-pass f n i h l = upto-of f n .pass i (rw (eqb-true (upto f n) n h) l)
-
-pub both-true : (a b : Bool) → (a && b) ≡ true → (a ≡ true) × (b ≡ true)
-both-true true b e = (refl, e)
-both-true false b e = let z : _≡_ {A = Bool} false true = e in (z, cc)
 
 -- a row below h ends within h rows
 pub row-fits : (w h v : ℕ) → v < h → v * w + w ≤ h * w

@@ -6,11 +6,6 @@ use Prim.Native.Nat.{ℕ}
 use borrow.Author.Tests.{eq-eqb, eqb-true}
 use lib.Dec.{eqb}
 
--- a test, with its answer
-pub by-test {κ} : {C : Type κ} (b : Bool) → (b ≡ true → C) → (b ≡ false → C) → C
-by-test true f h = f refl
-by-test false f h = h refl
-
 pub and-both : (a b : Bool) → a ≡ true → b ≡ true → (a && b) ≡ true
 and-both true b e f = f
 and-both false b e f = absurd (false≢true e)

@@ -14,7 +14,7 @@ use Rattle.stand.specs.Shape.{sections, shapeOf, wellFormed}
 use Rattle.stand.specs.declared.volume.Volume.{Volume}
 use Rattle.stand.proofs.Refusal.{passes}
 use Rattle.stand.proofs.Shape.{formed-opens, sections-some}
-use Rattle.stand.proofs.Tests.{both, refuted}
+use Rattle.stand.proofs.Tests.{both, by-test, refuted}
 
 -- ---- refusals, a law for each return
 
@@ -76,10 +76,6 @@ pub fed-some : (v : Volume) (log last mark : ℕ) → Fed v log last mark → (1
 fed-some v log last mark f = (rw (f .log-is) (sections-some (shapeOf v) (formed-opens v (f .formed))), f .last-is ∙ sym (f .log-is))
 
 -- ---- one generation
-
-pub by-test : {A : Type 0} (b : Bool) → (b ≡ true → A) → (b ≡ false → A) → A
-by-test true f g = f refl
-by-test false f g = g refl
 
 module _ (n : ℕ) (log last : List ℕ) where
   -- the entry for generation j + 1 is a section, and its last change is that generation

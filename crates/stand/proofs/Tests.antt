@@ -11,3 +11,8 @@ both false b e = absurd (false≢true e)
 pub refuted : (b : Bool) → (b ≡ true → ⊥) → false ≡ b
 refuted true h = absurd (h refl)
 refuted false h = refl
+
+-- a test, with its answer
+pub by-test {κ} : {C : Type κ} (b : Bool) → (b ≡ true → C) → (b ≡ false → C) → C
+by-test true f g = f refl
+by-test false f g = g refl
