@@ -76,8 +76,8 @@ fn extent(p: Point) -> Extent
     Extent { x, y, z }
 }
 
-// The header of a stand just opened.
-fn header(origin: Cell, size: Extent) -> VolumeAnswer
+// The header that opening gives, before storage is looked at: how many chunks it has says what to lend. Rules out a count that wraps, and a last cell past i32.
+pub fn header(origin: Cell, size: Extent) -> VolumeAnswer
     ensures { λ r. ⌜ volumeAnswer r ≡ headerCall origin size ⌝ }
 {
     let n = sizes(size);

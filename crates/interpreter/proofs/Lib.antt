@@ -1,0 +1,1 @@
+-- Laws and proofs of `interpreter`.
