@@ -1,1 +1,5 @@
 -- Laws and proofs of `interpreter`.
+pub mod Prices
+pub mod Ran
+pub mod Rooms
+pub mod Turns

@@ -1,1 +1,4 @@
 -- The definitions that the contracts of `interpreter` cite.
+pub mod Room
+pub mod Run
+pub mod Start

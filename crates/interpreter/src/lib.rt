@@ -5,6 +5,12 @@ use stand::Cell;
 use stand::volume::Extent;
 use stand::volume::Volume;
 
+mod edit;
+mod price;
+mod room;
+pub mod run;
+pub mod start;
+
 // A call, by document 01's kinds 1 to 6.
 pub enum Call {
     // Origin and size.
