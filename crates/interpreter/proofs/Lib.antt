@@ -1,4 +1,5 @@
 -- Laws and proofs of `interpreter`.
+pub mod Decoding
 pub mod Prices
 pub mod Ran
 pub mod Rooms

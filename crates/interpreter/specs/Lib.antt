@@ -1,4 +1,5 @@
 -- The definitions that the contracts of `interpreter` cite.
+pub mod Decode
 pub mod Room
 pub mod Run
 pub mod Start

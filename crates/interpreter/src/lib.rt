@@ -5,11 +5,13 @@ use stand::Cell;
 use stand::volume::Extent;
 use stand::volume::Volume;
 
+pub mod decode;
 mod edit;
 mod price;
 mod room;
 pub mod run;
 pub mod start;
+pub mod step;
 
 // A call, by document 01's kinds 1 to 6.
 pub enum Call {
