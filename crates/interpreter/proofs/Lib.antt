@@ -3,4 +3,5 @@ pub mod Decoding
 pub mod Prices
 pub mod Ran
 pub mod Rooms
+pub mod Stepped
 pub mod Turns

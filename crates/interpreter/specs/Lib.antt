@@ -2,4 +2,5 @@
 pub mod Decode
 pub mod Room
 pub mod Run
+pub mod Script
 pub mod Start
