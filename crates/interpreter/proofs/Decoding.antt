@@ -4,7 +4,6 @@ use mathlib.Core.Bool.{Bool, true, false}
 use mathlib.Core.List.{List, [], _∷_}
 use Prim.Native.Nat.{ℕ, _+_, _-_, _≤_, _<_}
 use native.Mathlib.Omega.{arith}
-use borrow.Author.Tests.{lt-ltb, le-ltb, le-leb, lt-leb, ne-eqb, eqb-true, eqb-false}
 use lib.Dec.{eqb}
 use lib.IntN.{ℤ, pos, negsuc}
 use lib.Signed.{mag}
@@ -16,6 +15,7 @@ use Rattle.arith.proofs.Signed.{back}
 use Rattle.interpreter.specs.Decode.{byteAt, wordAt, signedOf, lengthOf, callOf, whole, decodeOf}
 use Rattle.interpreter.specs.declared.Call.the-variants.{Cut}
 use Rattle.interpreter.specs.declared.decode.Decoded.the-variants.{Is, Broken}
+use borrow.Author.Tests.{lt-ltb, le-ltb, le-leb, lt-leb, ne-eqb, eqb-true, eqb-false}
 
 -- ---- signed numbers
 

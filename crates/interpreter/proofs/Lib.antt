@@ -1,7 +1,9 @@
 -- Laws and proofs of `interpreter`.
 pub mod Decoding
+pub mod Lines
 pub mod Prices
 pub mod Ran
 pub mod Rooms
 pub mod Stepped
 pub mod Turns
+pub mod Writing

@@ -7,6 +7,7 @@ use stand::volume::Volume;
 
 pub mod decode;
 mod edit;
+pub mod line;
 mod price;
 mod room;
 pub mod run;
