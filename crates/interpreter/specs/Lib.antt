@@ -1,5 +1,6 @@
 -- The definitions that the contracts of `interpreter` cite.
 pub mod Decode
+pub mod Example
 pub mod Line
 pub mod Room
 pub mod Run
