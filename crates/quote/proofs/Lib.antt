@@ -1,0 +1,4 @@
+-- Laws of `quote`.
+pub mod Decimal
+pub mod Found
+pub mod Places

@@ -1,0 +1,59 @@
+-- `quote::words::skip_blanks` meets its contract.
+use mathlib.Core.Path.{_≡_, refl, sym, ap, _∙_}
+use mathlib.Core.Bool.{not}
+use Prim.Native.Nat.{_-_}
+use lib.ListN.{length}
+use Rattle.quote.specs.Words.{skip}
+use Rattle.quote.proofs.Found.{first-end, first-here, first-on}
+use borrow.Author.Needs.{needs}
+use Rattle.quote.proofs.words.skip_blanks.Statement.{statement}
+use Rattle.quote.proofs.words.skip_blanks.Tie as tie
+
+abbrev Inv-loop : tie.InvT-loop
+Inv-loop line at i₀ i = skip line i ≡ skip line at
+
+abbrev μ-loop : tie.MeasureT-loop
+μ-loop line at i₀ i = length line - i
+
+loop-holds : tie.Need-loop-holds Inv-loop μ-loop
+loop-holds c = refl
+
+shared-slice-read-is-blank : tie.Need-shared-slice-read-is-blank Inv-loop μ-loop
+shared-slice-read-is-blank c = search needs
+
+is-blank-requires : tie.Need-is-blank-requires Inv-loop μ-loop
+is-blank-requires c κs = search needs
+
+returns : tie.Need-returns Inv-loop μ-loop
+returns c =
+    let t = c .before .before .before in
+    sym (first-here _ _ _ (t .loop-test .taken) (ap not (sym (c .before .is-blank .ensures)) ∙ c .if1 .taken)) ∙ t .before .loop .inv
+
+add-i : tie.Need-add-i Inv-loop μ-loop
+add-i c = search needs
+
+loop-less : tie.Need-loop-less Inv-loop μ-loop
+loop-less c = search needs
+
+loop-again : tie.Need-loop-again Inv-loop μ-loop
+loop-again c =
+    let t = c .before .before .before in
+    sym (first-on _ _ _ (t .loop-test .taken) (ap not (sym (c .before .is-blank .ensures)) ∙ c .if1 .left)) ∙ t .before .loop .inv
+
+returns-2 : tie.Need-returns-2 Inv-loop μ-loop
+returns-2 c = sym (first-end _ _ _ (c .loop-test .left)) ∙ c .before .loop .inv
+
+pub skip-blanks-spec : {M : Type 1} → statement M
+skip-blanks-spec =
+    tie.close
+    (tie.spec
+    Inv-loop
+    μ-loop
+    loop-holds
+    shared-slice-read-is-blank
+    is-blank-requires
+    returns
+    add-i
+    loop-less
+    loop-again
+    returns-2)
