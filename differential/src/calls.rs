@@ -67,7 +67,7 @@ pub fn list(mix: Mix, count: usize, rng: &mut Rng) -> Vec<Call> {
 /// Makes calls for the stand that the last opening gave.
 pub struct Maker {
     mix: Mix,
-    origin: Cell,
+    pub origin: Cell,
     pub size: Extent,
     edits: u64,
 }
@@ -103,6 +103,11 @@ impl Maker {
     }
 
     pub fn open(&mut self, rng: &mut Rng) -> Call {
+        let (origin, size) = self.opening(rng);
+        Call::Open(origin, size)
+    }
+
+    pub fn opening(&mut self, rng: &mut Rng) -> (Cell, Extent) {
         self.size = (self.mix.sizes)(rng);
         let size = self.size;
         self.origin = Cell {
@@ -117,10 +122,15 @@ impl Maker {
             y: low(size.y),
             z: low(size.z),
         };
-        Call::Open(self.origin, asked)
+        (self.origin, asked)
     }
 
-    pub fn refused_open(&mut self, rng: &mut Rng) -> Call {
+    pub fn refused_open(&self, rng: &mut Rng) -> Call {
+        let (origin, size) = self.refused_opening(rng);
+        Call::Open(origin, size)
+    }
+
+    pub fn refused_opening(&self, rng: &mut Rng) -> (Cell, Extent) {
         let mut size = [self.size.x, self.size.y, self.size.z];
         let mut origin = [self.origin.x, self.origin.y, self.origin.z];
         let axis = rng.below(3) as usize;
@@ -130,7 +140,7 @@ impl Maker {
             size[axis] = size[axis].max(2);
             origin[axis] = i32::MAX - size[axis] + 2;
         }
-        Call::Open(cell_of(origin), extent_of(size))
+        (cell_of(origin), extent_of(size))
     }
 
     pub fn cell(&self, rng: &mut Rng) -> Cell {
@@ -151,6 +161,11 @@ impl Maker {
     }
 
     pub fn fill(&self, rng: &mut Rng) -> Call {
+        let (from, to) = self.corners(rng);
+        Call::Fill(from, to, finish(rng))
+    }
+
+    pub fn corners(&self, rng: &mut Rng) -> (Cell, Cell) {
         let (o, n) = (self.origin, self.size);
         let kind = rng.below(20);
         let reach = self.mix.reach;
@@ -167,9 +182,7 @@ impl Maker {
         let x = on(o.x, n.x);
         let y = on(o.y, n.y);
         let z = on(o.z, n.z);
-        let from = cell_of([x.0, y.0, z.0]);
-        let to = cell_of([x.1, y.1, z.1]);
-        Call::Fill(from, to, finish(rng))
+        (cell_of([x.0, y.0, z.0]), cell_of([x.1, y.1, z.1]))
     }
 
     fn mark(&self, rng: &mut Rng) -> u64 {
@@ -181,12 +194,12 @@ impl Maker {
     }
 }
 
-fn cell_of(c: [i32; 3]) -> Cell {
+pub const fn cell_of(c: [i32; 3]) -> Cell {
     let [x, y, z] = c;
     Cell { x, y, z }
 }
 
-fn extent_of(e: [i32; 3]) -> Extent {
+pub const fn extent_of(e: [i32; 3]) -> Extent {
     let [x, y, z] = e;
     Extent { x, y, z }
 }

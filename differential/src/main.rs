@@ -24,6 +24,7 @@ mod sheet;
 mod shrink;
 mod theirs;
 mod tiers;
+mod trial;
 
 use report::Report;
 use std::process::ExitCode;
@@ -34,6 +35,7 @@ differential --calls N    a run of about N calls, in the same shares
 differential --seed S     lists made from another seed
 differential --checked    a shorter run that lists the Rust's panics; build it with --profile checked
 differential --sheet      the price sheet's part alone
+differential --scripts N  the trial program with N random scripts (300,000 unless said)
 differential --self-test  faults put into our side must be found
 differential --bench      times of both sides
 differential --record F   calls with the Rust's answers, written to F for the crate replay";
@@ -52,6 +54,7 @@ const PAST_I32: ffi::Extent = ffi::Extent {
 
 struct Args {
     calls: u64,
+    scripts: u64,
     seed: u64,
     mode: String,
     file: String,
@@ -60,17 +63,24 @@ struct Args {
 fn args() -> Option<Args> {
     let mut parsed = Args {
         calls: CALLS,
+        scripts: trial::SCRIPTS,
         seed: 1,
         mode: String::new(),
         file: String::new(),
     };
-    let mut rest = std::env::args().skip(1);
+    let mut rest = std::env::args().skip(1).peekable();
     while let Some(arg) = rest.next() {
         match arg.as_str() {
             "--calls" => parsed.calls = rest.next()?.parse().ok()?,
             "--seed" => parsed.seed = rest.next()?.parse().ok()?,
             "--checked" => {
                 parsed.calls = CHECKED;
+                parsed.mode = arg;
+            }
+            "--scripts" => {
+                if let Some(next) = rest.next_if(|a| !a.starts_with("--")) {
+                    parsed.scripts = next.parse().ok()?;
+                }
                 parsed.mode = arg;
             }
             "--bench" | "--self-test" | "--sheet" => parsed.mode = arg,
@@ -95,7 +105,8 @@ fn main() -> ExitCode {
             bench::run();
             true
         }
-        "--self-test" => selftest::run(args.seed),
+        "--self-test" => selftest::run(args.seed) & trial::self_test(args.seed),
+        "--scripts" => built(false) && trial::run(args.scripts, args.seed),
         "--sheet" => sheet_alone(&args),
         "--record" => record::run(&args.file, args.seed),
         mode => compare_all(&args, mode == "--checked"),
@@ -112,10 +123,17 @@ fn share(calls: u64, asked: u64) -> u64 {
     (u128::from(calls) * u128::from(asked) / u128::from(CALLS)) as u64
 }
 
-fn compare_all(args: &Args, catch: bool) -> bool {
-    let checks = guard::guarded(|| theirs::merged(PAST_I32)).is_err();
-    if checks != catch {
+/// Whether the Rust was built with overflow checks as wanted.
+fn built(checks: bool) -> bool {
+    let fits = guard::guarded(|| theirs::merged(PAST_I32)).is_err() == checks;
+    if !fits {
         println!("build with --release, or with --profile checked for --checked");
+    }
+    fits
+}
+
+fn compare_all(args: &Args, catch: bool) -> bool {
+    if !built(catch) {
         return false;
     }
     println!("seed {}", args.seed);

@@ -1,4 +1,4 @@
-//! Many lists of calls, on as many threads as the machine has cores.
+//! Many lists of calls, or other work by number, on as many threads as the machine has cores.
 
 use crate::calls::Call;
 use crate::counts::Counts;
@@ -48,27 +48,35 @@ impl Summary {
 
 /// Runs the lists numbered below `lists`; stops soon after a difference.
 pub fn run_lists(lists: u64, options: Options, make: impl Fn(u64) -> Vec<Call> + Sync) -> Summary {
+    let summary = Mutex::new(Summary::default());
+    while_same(lists, |list| {
+        let calls = make(list);
+        let outcome = run::run(&calls, options);
+        let same = outcome.difference.is_none();
+        let mut all = summary.lock().expect("no thread panicked");
+        all.add(list, calls, outcome, options);
+        same
+    });
+    summary.into_inner().expect("no thread panicked")
+}
+
+/// Does the work of each number below `count`; stops soon after one that answers false.
+pub fn while_same(count: u64, work: impl Fn(u64) -> bool + Sync) {
     let next = AtomicU64::new(0);
     let stop = AtomicBool::new(false);
-    let summary = Mutex::new(Summary::default());
-    let work = || {
+    let turn = || {
         while !stop.load(Ordering::Relaxed) {
-            let list = next.fetch_add(1, Ordering::Relaxed);
-            if list >= lists {
+            let number = next.fetch_add(1, Ordering::Relaxed);
+            if number >= count {
                 return;
             }
-            let calls = make(list);
-            let outcome = run::run(&calls, options);
-            stop.fetch_or(outcome.difference.is_some(), Ordering::Relaxed);
-            let mut all = summary.lock().expect("no thread panicked");
-            all.add(list, calls, outcome, options);
+            stop.fetch_or(!work(number), Ordering::Relaxed);
         }
     };
     let threads = thread::available_parallelism().map_or(1, usize::from);
     thread::scope(|scope| {
         for _ in 0..threads {
-            scope.spawn(work);
+            scope.spawn(turn);
         }
     });
-    summary.into_inner().expect("no thread panicked")
 }

@@ -13,10 +13,12 @@ mod sums;
 mod tally;
 mod trial;
 
-pub use card::Card;
+pub use card::{Card, LIMIT};
+pub use due::beside;
 pub use example::example;
 pub use harm::Harm;
 pub use list::calls_of;
+pub use measured::{Row, cuts, priced, row};
 pub use run::{CALLS, OPTIONS, run};
 pub use smaller::smaller;
 pub use tally::Tally;

@@ -9,14 +9,10 @@ use std::time::{Duration, Instant};
 const LIMIT: Duration = Duration::from_secs(30);
 
 pub fn shrink(calls: &[Call], shows: impl Fn(&[Call]) -> bool) -> Vec<Call> {
-    let mut s = Shrinker {
-        best: calls.to_vec(),
-        start: Instant::now(),
-        shows,
-    };
+    let mut s = Shrinker::new(calls, shows);
     loop {
         let before = s.best.clone();
-        s.drop_calls();
+        s.drop_runs();
         s.move_to_zero();
         s.make_smaller();
         if s.best == before || s.is_late() {
@@ -25,18 +21,38 @@ pub fn shrink(calls: &[Call], shows: impl Fn(&[Call]) -> bool) -> Vec<Call> {
     }
 }
 
-struct Shrinker<F> {
-    best: Vec<Call>,
+/// As few entries as show it, each as it was.
+pub fn fewest<T: Clone + PartialEq>(list: &[T], shows: impl Fn(&[T]) -> bool) -> Vec<T> {
+    let mut s = Shrinker::new(list, shows);
+    loop {
+        let before = s.best.len();
+        s.drop_runs();
+        if s.best.len() == before || s.is_late() {
+            return s.best;
+        }
+    }
+}
+
+struct Shrinker<T, F> {
+    best: Vec<T>,
     start: Instant,
     shows: F,
 }
 
-impl<F: Fn(&[Call]) -> bool> Shrinker<F> {
+impl<T: Clone + PartialEq, F: Fn(&[T]) -> bool> Shrinker<T, F> {
+    fn new(list: &[T], shows: F) -> Self {
+        Self {
+            best: list.to_vec(),
+            start: Instant::now(),
+            shows,
+        }
+    }
+
     fn is_late(&self) -> bool {
         self.start.elapsed() > LIMIT
     }
 
-    fn try_list(&mut self, list: Vec<Call>) -> bool {
+    fn try_list(&mut self, list: Vec<T>) -> bool {
         if list == self.best || self.is_late() {
             return false;
         }
@@ -47,8 +63,8 @@ impl<F: Fn(&[Call]) -> bool> Shrinker<F> {
         shows
     }
 
-    /// Leaves out runs of calls, long ones first.
-    fn drop_calls(&mut self) {
+    /// Leaves out runs of entries, long ones first.
+    fn drop_runs(&mut self) {
         let mut run = self.best.len();
         while run > 0 {
             let mut at = 0;
@@ -62,7 +78,9 @@ impl<F: Fn(&[Call]) -> bool> Shrinker<F> {
             run /= 2;
         }
     }
+}
 
+impl<F: Fn(&[Call]) -> bool> Shrinker<Call, F> {
     /// Moves all cells together, so that an opening lies at 0 on an axis.
     fn move_to_zero(&mut self) {
         for at in 0..self.best.len() {

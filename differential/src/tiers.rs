@@ -99,6 +99,24 @@ pub fn few(rng: &mut Rng) -> Extent {
     sized(1, 4, &[1, 1, 2, 5, 15, 16, 17, 32, 33, 64], rng)
 }
 
+/// At most 4 sections, most of them narrow and across a section's edge, for the trial program.
+pub fn offered(rng: &mut Rng) -> Extent {
+    const LONG: [i32; 16] = [1, 2, 15, 16, 17, 18, 31, 32, 33, 33, 34, 48, 49, 49, 63, 64];
+    const WIDE: [i32; 5] = [15, 16, 17, 31, 32];
+    match rng.below(20) {
+        0..10 => turned([rng.pick(&LONG), rng.between(1, 3) as i32, 1], rng),
+        10..14 => {
+            let [a, b] = [0; 2].map(|_| rng.between(3, 5) as i32);
+            turned([rng.pick(&LONG), a, b], rng)
+        }
+        14..19 => sized(2, 4, &[1, 1, 1, 2, 16, 17, 31, 32, 33, 48, 64], rng),
+        _ => {
+            let deep = rng.between(1, 16) as i32;
+            turned([rng.pick(&WIDE), rng.pick(&WIDE), deep], rng)
+        }
+    }
+}
+
 fn medium(rng: &mut Rng) -> Extent {
     sized(2, 8, &[1, 1, 2, 15, 16, 17, 31, 32, 33, 48, 128], rng)
 }

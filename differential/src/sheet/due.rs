@@ -2,13 +2,13 @@
 
 use super::attempt::Job;
 use super::card::LIMIT;
-use crate::ffi::Volume;
+use crate::ffi::Extent;
 use crate::model;
 use crate::pair::{Difference, Pair};
 
 /// The sections that share a face with one.
-fn beside(v: Volume, section: usize) -> Vec<usize> {
-    let k = [v.chunks.x, v.chunks.y, v.chunks.z].map(|n| n as usize);
+pub fn beside(chunks: Extent, section: usize) -> Vec<usize> {
+    let k = [chunks.x, chunks.y, chunks.z].map(|n| n as usize);
     let place = [section % k[0], section / k[0] % k[1], section / k[0] / k[1]];
     let strides = [1, k[0], k[0] * k[1]];
     let mut all = Vec::new();
@@ -34,7 +34,7 @@ impl Pair {
         let now = self.volume.generation;
         let every = !job.refresh || now.saturating_sub(job.mark) > n as u64;
         let due = |s: &usize| {
-            let near = || beside(self.volume, *s).into_iter();
+            let near = || beside(self.volume.chunks, *s).into_iter();
             every || self.changed(job.mark, *s) || near().any(|b| self.changed(job.mark, b))
         };
         (0..n).filter(due).collect()
