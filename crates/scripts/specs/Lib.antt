@@ -1,0 +1,3 @@
+-- The definitions of `scripts`.
+pub mod Page
+pub mod Quotes
