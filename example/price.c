@@ -30,9 +30,15 @@ static void print_line(stand_volume volume) {
 }
 
 int main(void) {
-    stand_opened opened = stand_open((stand_cell){0, 0, 0}, (stand_extent){17, 1, 1}, STORAGE);
+    const stand_cell origin = {0, 0, 0};
+    const stand_extent size = {17, 1, 1};
+    /* the header says how many sections to lend storage for */
+    stand_opened opened = stand_header(origin, size);
+    accepted("stand_header", opened.code);
+    accepted("stand_chunk_count", stand_chunk_count(opened.volume).value == SECTIONS ? STAND_OK : 4);
+    opened = stand_open(origin, size, STORAGE);
     accepted("stand_open", opened.code);
-    stand_edited edit = stand_fill(opened.volume, STORAGE, (stand_cell){0, 0, 0}, (stand_cell){16, 0, 0}, 3);
+    stand_edited edit = stand_fill(opened.volume, STORAGE, origin, (stand_cell){16, 0, 0}, 3);
     accepted("stand_fill", edit.code);
     stand_marked marked = stand_open_sheet(edit.volume, 0, cells, CELLS, rates, FINISHES, cut, STAND_OUTSIDE_SHOWS,
                                            mask, 256, sheet, SECTIONS * 3);

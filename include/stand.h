@@ -176,6 +176,9 @@ typedef struct {
 
 /* ---- opening and editing: these write the five lists ---- */
 
+/* The header that opening would give: its sections say how many entries to lend. Refused: 1, 2. */
+stand_opened stand_header(stand_cell origin, stand_extent size);
+
 /* Opens a stand of `size` cells from `origin` on, all empty. A size below 1 counts as 1. The lists may hold
    anything before; all entries are 0 after. Refused: 1, 2, 4. For each axis there are size / 16 sections,
    rounded up; the lists need as many entries as their product says. */
@@ -304,6 +307,9 @@ stand_number stand_faces(stand_volume volume, const uint16_t *cells, size_t cell
 stand_number stand_chunk_faces(stand_volume volume, const uint16_t *cells, size_t cells_count, size_t chunk,
                                uint32_t rule, uint16_t *mask, size_t mask_count,
                                int32_t *list, size_t list_count);
+
+/* How many mask slots a section wants: its largest side, cut short by the size. Refused: 3, 7. */
+stand_number stand_chunk_slots(stand_volume volume, size_t chunk);
 
 /* Lays the visible finishes of one side of a section, `slice` cells up along the side's normal, into the
    mask: 0 where no face is visible. The mask needs the slots that stand_chunk_faces needs; those beyond

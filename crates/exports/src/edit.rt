@@ -3,7 +3,7 @@ ghost use mathlib.Core.Path.{_≡_};
 ghost use Rattle.stand.specs.Answer.{numberAnswer, setAnswer, volumeAnswer};
 ghost use Rattle.stand.specs.Edit.{setCall};
 ghost use Rattle.stand.specs.Fill.{fillCall};
-ghost use Rattle.stand.specs.Opening.{openCall};
+ghost use Rattle.stand.specs.Opening.{headerCall, openCall};
 ghost use Rattle.stand.specs.Storage.{stateOf, storageOf};
 ghost use Rattle.exports.specs.Edit.{editReply, noVolume, openReply, repliedEdit, repliedHeader, wroteOf};
 use stand::Cell;
@@ -13,6 +13,7 @@ use stand::volume::Volume;
 use stand::volume::answer::NumberAnswer;
 use stand::volume::answer::SetAnswer;
 use stand::volume::answer::VolumeAnswer;
+use stand::volume::opening::header;
 
 // A stand just opened; a header of zeros where it is refused.
 #[repr(C)]
@@ -92,6 +93,14 @@ fn fill_reply(a: NumberAnswer, volume: Volume) -> Edited
             volume,
         },
     }
+}
+
+// The header that opening would give. Rules out a code for storage, which is not looked at, and a header where 1 or 2 applies.
+#[no_mangle]
+pub extern "C" fn stand_header(origin: Cell, size: Extent) -> Opened
+    ensures { λ r. ⌜ r ≡ repliedHeader (headerCall origin size) ⌝ }
+{
+    open_reply(header(origin, size))
 }
 
 // Opens a stand. Rules out a code of 0 for a refused opening, and lists that are not zeroed.

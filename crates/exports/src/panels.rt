@@ -1,13 +1,16 @@
 // All panels of a stand, or of a section.
 ghost use mathlib.Core.Path.{_≡_};
-ghost use Rattle.mesh.specs.Faces.{facesAnswer};
+ghost use Rattle.mesh.specs.Faces.{facesAnswer, slotsCall};
 ghost use Rattle.exports.specs.Panels.{chunkFacesReply, facesReply, meshReplyOf, repliedPanels};
+ghost use Rattle.exports.specs.Reply.{replied};
 use crate::reply::Number;
+use crate::reply::number_reply;
 use crate::rule::BAD_ARGUMENT;
 use crate::rule::RuleAnswer;
 use crate::rule::rule_at;
 use mesh::faces::FacesAnswer;
 use mesh::faces::chunk_faces;
+use mesh::faces::chunk_slots;
 use mesh::faces::faces;
 use stand::volume::Volume;
 
@@ -65,4 +68,12 @@ pub extern "C" fn stand_chunk_faces(
         };
     };
     faces_reply(chunk_faces(cells, volume, chunk, beyond, mask, list))
+}
+
+// How many mask slots a section wants. Rules out those of a whole stand, and a code of 0 past the last section.
+#[no_mangle]
+pub extern "C" fn stand_chunk_slots(volume: Volume, chunk: usize) -> Number
+    ensures { λ r. ⌜ r ≡ replied (slotsCall volume chunk) ⌝ }
+{
+    number_reply(chunk_slots(volume, chunk))
 }
