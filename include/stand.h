@@ -1,5 +1,5 @@
 /*
- * The stand in C: a store of coated cubes, its edits, its changes, and its panels.
+ * The stand in C: a store of coated cubes, its edits, its changes, its panels, and their price.
  *
  * Link with libexports.a, which `rt staticlib exports` writes (x86-64 Linux).
  *
@@ -18,6 +18,9 @@
  *     versions   n          the version of each section; it goes from 4,294,967,295 to 0
  *     log        n          the sections of the latest changes
  *     last       n          the generation of each section's last change
+ *     sheet      n * 3      the price sheet's rows: panels, faces, cents of each section
+ *
+ * Masks, panel lists and rates may have any length; each call says what it needs.
  *
  * The header. stand_volume goes by value. A call that edits answers the header after it, which the next
  * call must be given: an older header does not fit the lists any more. stand_set_lent alters the caller's
@@ -25,7 +28,7 @@
  *
  * Answers. Each has a code: 0 for accepted, or the lowest number under which the call is refused. A refused
  * call writes nothing, and all else in its answer is 0, but for what STAND_SHORT_LIST says, and but for the
- * header in stand_edited, which is then the one given.
+ * header in stand_edited and the mark in stand_marked, which are then those given.
  */
 #ifndef STAND_H
 #define STAND_H
@@ -181,7 +184,7 @@ stand_opened stand_header(stand_cell origin, stand_extent size);
 
 /* Opens a stand of `size` cells from `origin` on, all empty. A size below 1 counts as 1. The lists may hold
    anything before; all entries are 0 after. Refused: 1, 2, 4. For each axis there are size / 16 sections,
-   rounded up; the lists need as many entries as their product says. */
+   rounded up; n is their product. */
 stand_opened stand_open(stand_cell origin, stand_extent size,
                         uint16_t *cells, size_t cells_count,
                         uint64_t *hashes, size_t hashes_count,
@@ -330,7 +333,7 @@ stand_panel_given stand_claim(stand_slice slice, uint16_t *mask, size_t mask_cou
    always enough. */
 
 /* Opens a sheet: every section is measured, and the mark is the generation. To be called anew after
-   stand_open. Refused: 100, 3, 4, 10, 12; then nothing is written. */
+   stand_open. `mark` is any number; it comes back where the call is refused. Refused: 100, 3, 4, 10, 12; then nothing is written. */
 stand_marked stand_open_sheet(stand_volume volume, uint64_t mark,
                               const uint16_t *cells, size_t cells_count,
                               const uint32_t *rates, size_t rates_count, uint32_t cut, uint32_t rule,

@@ -1,4 +1,4 @@
-// The C interface: each call of the stand and of its meshing, with structs and numbers that C knows.
+// The C interface: the calls of the stand, of its meshing and of the price sheet, with structs and numbers that C knows.
 pub mod edit;
 pub mod lent;
 pub mod panels;
