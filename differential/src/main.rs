@@ -5,6 +5,7 @@ mod calls;
 mod compare;
 mod counts;
 mod damage;
+mod differences;
 mod exhaustive;
 mod fault;
 mod ffi;
@@ -15,6 +16,7 @@ mod openings;
 mod ours;
 mod pair;
 mod panels;
+mod quote;
 mod record;
 mod report;
 mod rng;
@@ -35,7 +37,8 @@ differential --calls N    a run of about N calls, in the same shares
 differential --seed S     lists made from another seed
 differential --checked    a shorter run that lists the Rust's panics; build it with --profile checked
 differential --sheet      the price sheet's part alone
-differential --scripts N  the trial program with N random scripts (300,000 unless said)
+differential --scripts N  the program trial with N random scripts (300,000 unless said)
+differential --lines N    the program quote with N random texts (100,000 unless said)
 differential --self-test  faults put into our side must be found
 differential --bench      times of both sides
 differential --record F   calls with the Rust's answers, written to F for the crate replay";
@@ -54,7 +57,8 @@ const PAST_I32: ffi::Extent = ffi::Extent {
 
 struct Args {
     calls: u64,
-    scripts: u64,
+    /// Scripts or texts.
+    inputs: Option<u64>,
     seed: u64,
     mode: String,
     file: String,
@@ -63,7 +67,7 @@ struct Args {
 fn args() -> Option<Args> {
     let mut parsed = Args {
         calls: CALLS,
-        scripts: trial::SCRIPTS,
+        inputs: None,
         seed: 1,
         mode: String::new(),
         file: String::new(),
@@ -77,9 +81,9 @@ fn args() -> Option<Args> {
                 parsed.calls = CHECKED;
                 parsed.mode = arg;
             }
-            "--scripts" => {
+            "--scripts" | "--lines" => {
                 if let Some(next) = rest.next_if(|a| !a.starts_with("--")) {
-                    parsed.scripts = next.parse().ok()?;
+                    parsed.inputs = Some(next.parse().ok()?);
                 }
                 parsed.mode = arg;
             }
@@ -105,8 +109,9 @@ fn main() -> ExitCode {
             bench::run();
             true
         }
-        "--self-test" => selftest::run(args.seed) & trial::self_test(args.seed),
-        "--scripts" => built(false) && trial::run(args.scripts, args.seed),
+        "--self-test" => self_test(args.seed),
+        "--scripts" => built(false) && trial::run(args.inputs.unwrap_or(trial::SCRIPTS), args.seed),
+        "--lines" => built(false) && quote::run(args.inputs.unwrap_or(quote::TEXTS), args.seed),
         "--sheet" => sheet_alone(&args),
         "--record" => record::run(&args.file, args.seed),
         mode => compare_all(&args, mode == "--checked"),
@@ -116,6 +121,10 @@ fn main() -> ExitCode {
     } else {
         ExitCode::FAILURE
     }
+}
+
+fn self_test(seed: u64) -> bool {
+    selftest::run(seed) & trial::self_test(seed) & quote::self_test(seed)
 }
 
 /// A part's calls in a run cut to `asked` calls of the tiers.

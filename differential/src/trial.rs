@@ -1,14 +1,14 @@
 //! The trial program against the same program over the Rust, script by script.
 
 mod author;
-mod call;
+pub mod call;
 mod fault;
-mod process;
-mod program;
+pub mod process;
+pub mod program;
 mod run;
-mod script;
+pub mod script;
 mod selftest;
-mod tally;
+pub mod tally;
 
 pub use run::{SCRIPTS, run};
 pub use selftest::self_test;

@@ -1,4 +1,4 @@
-//! The program itself: one process for each script.
+//! A program itself: one process for each script or text.
 
 use std::io::{ErrorKind, Result, Write};
 use std::path::{Path, PathBuf};
@@ -7,7 +7,7 @@ use std::process::{Command, Stdio};
 /// What a pipe holds, so that a script is written whole before the program reads it.
 const PIPE: usize = 65_536;
 
-/// All that a run of the program shows.
+/// All that a run of a program shows.
 #[derive(PartialEq)]
 pub struct Shown {
     pub out: Vec<u8>,
@@ -16,23 +16,51 @@ pub struct Shown {
     pub code: Option<i32>,
 }
 
-/// target/bin/trial at the repository's root, or the file that STAND_TRIAL names.
-pub fn program() -> Option<PathBuf> {
-    let path = match std::env::var_os("STAND_TRIAL") {
+impl Shown {
+    /// What a program must show: these lines, no word else, exit status 0.
+    pub fn due(lines: &str) -> Self {
+        Self {
+            out: lines.as_bytes().to_vec(),
+            err: Vec::new(),
+            code: Some(0),
+        }
+    }
+
+    pub fn print(&self, name: &str) {
+        let code = self.code.map_or("a signal".into(), |n| format!("{n}"));
+        println!("  {name}, exit status {code}:");
+        for bytes in [&self.out, &self.err] {
+            for line in String::from_utf8_lossy(bytes).lines() {
+                println!("    {line}");
+            }
+        }
+    }
+}
+
+/// A program below target/bin at the repository's root, or the file that the variable names.
+pub fn program(name: &str, variable: &str) -> Option<PathBuf> {
+    let path = match std::env::var_os(variable) {
         Some(path) => PathBuf::from(path),
-        None => Path::new(env!("CARGO_MANIFEST_DIR")).join("../target/bin/trial"),
+        None => Path::new(env!("CARGO_MANIFEST_DIR"))
+            .join("../target/bin")
+            .join(name),
     };
     if path.is_file() {
         return Some(path);
     }
     println!(
-        "no {}: run `rt check trial` at the repository's root, or set STAND_TRIAL to the program",
+        "no {}: run `rt check {name}` at the repository's root, or set {variable} to the program",
         path.display()
     );
     None
 }
 
-pub fn run(program: &Path, script: &[u8]) -> Result<Shown> {
+pub fn run(program: &Path, script: &[u8]) -> Shown {
+    let shown = shown(program, script);
+    shown.unwrap_or_else(|e| panic!("{}: {e}", program.display()))
+}
+
+fn shown(program: &Path, script: &[u8]) -> Result<Shown> {
     assert!(script.len() < PIPE, "a script fits a pipe");
     let mut child = Command::new(program)
         .stdin(Stdio::piped())
@@ -41,7 +69,7 @@ pub fn run(program: &Path, script: &[u8]) -> Result<Shown> {
         .spawn()?;
     let mut input = child.stdin.take().expect("its input is a pipe");
     match input.write_all(script) {
-        // A program that stops at a broken call may be gone before the rest is written.
+        // A program that stops at a broken call or line may be gone before the rest is written.
         Err(e) if e.kind() != ErrorKind::BrokenPipe => return Err(e),
         _ => drop(input),
     }

@@ -4,8 +4,9 @@ use super::call::{hex, parts};
 use super::fault::Fault;
 use super::process::{self, Shown};
 use super::program::{Played, play};
-use super::script::{EXAMPLE_LINES, make};
+use super::script::{EXAMPLE_LINES, Script, make};
 use super::tally::Tally;
+use crate::differences::Differences;
 use crate::many::while_same;
 use crate::shrink::fewest;
 use std::path::PathBuf;
@@ -20,25 +21,15 @@ pub struct Sides {
     pub fault: Option<Fault>,
 }
 
-/// A script that the sides answer differently.
-pub struct Found {
-    pub number: u64,
-    pub kind: &'static str,
-    pub script: Vec<u8>,
-}
-
 #[derive(Default)]
 pub struct Summary {
     pub tally: Tally,
-    pub differences: u64,
-    /// The first by number.
-    pub found: Option<Found>,
+    pub differences: Differences<Script>,
 }
 
 impl Sides {
     fn program_shows(&self, script: &[u8]) -> Shown {
-        let shown = process::run(&self.program, script);
-        let mut shown = shown.unwrap_or_else(|e| panic!("{}: {e}", self.program.display()));
+        let mut shown = process::run(&self.program, script);
         if let Some(fault) = self.fault {
             fault.spoil(&mut shown);
         }
@@ -48,7 +39,7 @@ impl Sides {
     /// What the reference does, and whether the program shows the same.
     fn compare(&self, script: &[u8]) -> (Played, bool) {
         let played = play(script, self.fault);
-        let same = self.program_shows(script) == due(&played);
+        let same = self.program_shows(script) == Shown::due(&played.text);
         (played, same)
     }
 
@@ -62,7 +53,7 @@ impl Sides {
             let mut all = summary.lock().expect("no thread panicked");
             all.tally.add(&played.tally);
             if !same {
-                all.differs(number, script.kind, script.bytes);
+                all.differences.add(number, script);
             }
             same
         });
@@ -77,38 +68,16 @@ impl Sides {
         fewest(&pieces, |p| !self.compare(&p.concat()).1).concat()
     }
 
-    fn print(&self, found: &Found, seed: u64) {
-        let Found { number, kind, .. } = found;
+    fn print(&self, number: u64, found: &Script, seed: u64) {
+        let kind = found.kind;
         println!("  DIFFERENCE in script {number} ({kind}), seed {seed}; smallest script found:");
-        let script = self.smallest(&found.script);
+        let script = self.smallest(&found.bytes);
         for line in text(&script) {
             println!("    {line}");
         }
         println!("  as bytes: {}", hex(&script));
-        print_shown("program", &self.program_shows(&script));
-        print_shown("reference", &due(&play(&script, self.fault)));
-    }
-}
-
-impl Summary {
-    fn differs(&mut self, number: u64, kind: &'static str, script: Vec<u8>) {
-        self.differences += 1;
-        if self.found.as_ref().is_none_or(|f| number < f.number) {
-            self.found = Some(Found {
-                number,
-                kind,
-                script,
-            });
-        }
-    }
-}
-
-/// What the program must show: the reference's lines, no word else, exit status 0.
-fn due(played: &Played) -> Shown {
-    Shown {
-        out: played.text.clone().into_bytes(),
-        err: Vec::new(),
-        code: Some(0),
+        self.program_shows(&script).print("program");
+        Shown::due(&play(&script, self.fault).text).print("reference");
     }
 }
 
@@ -125,19 +94,13 @@ pub fn text(script: &[u8]) -> Vec<String> {
     lines
 }
 
-fn print_shown(name: &str, shown: &Shown) {
-    let code = shown.code.map_or("a signal".into(), |n| format!("{n}"));
-    println!("  {name}, exit status {code}:");
-    for bytes in [&shown.out, &shown.err] {
-        for line in String::from_utf8_lossy(bytes).lines() {
-            println!("    {line}");
-        }
-    }
+pub fn program() -> Option<PathBuf> {
+    process::program("trial", "STAND_TRIAL")
 }
 
 /// The mode: false where a script differs, or where the scripts lack something.
 pub fn run(scripts: u64, seed: u64) -> bool {
-    let Some(program) = process::program() else {
+    let Some(program) = program() else {
         return false;
     };
     println!("seed {seed}, program {}", program.display());
@@ -149,11 +112,12 @@ pub fn run(scripts: u64, seed: u64) -> bool {
     let summary = sides.run(scripts, seed);
     println!("scripts ({:.1} s)", start.elapsed().as_secs_f64());
     summary.tally.print();
-    if let Some(found) = &summary.found {
-        sides.print(found, seed);
+    let differences = &summary.differences;
+    if let Some((number, script)) = &differences.first {
+        sides.print(*number, script, seed);
     }
     // A run that a difference stopped shows less.
-    let passed = summary.found.is_none() && summary.tally.is_whole();
-    summary.tally.end(summary.differences);
+    let passed = differences.count == 0 && summary.tally.is_whole();
+    summary.tally.end(differences.count);
     passed
 }

@@ -1,8 +1,7 @@
 //! Each fault must be found, and its script shrunk to a few calls.
 
 use super::fault::{self, Fault};
-use super::process::program;
-use super::run::{Sides, text};
+use super::run::{Sides, program, text};
 
 /// Scripts in which a fault must be found.
 const SCRIPTS: u64 = 5_000;
@@ -27,16 +26,15 @@ pub fn self_test(seed: u64) -> bool {
 
 fn look_for(sides: Sides, seed: u64) -> bool {
     let name = sides.fault.map_or(String::new(), |f| format!("{f:?}"));
-    let Some(found) = sides.run(SCRIPTS, seed).found else {
+    let Some((number, script)) = sides.run(SCRIPTS, seed).differences.first else {
         println!("trial, {name}: NOT FOUND");
         return false;
     };
-    let small = text(&sides.smallest(&found.script));
+    let small = text(&sides.smallest(&script.bytes));
     let short = small.len() <= MOST;
     println!(
-        "trial, {name}: found in script {}, shrunk from {} lines to: {}{}",
-        found.number,
-        text(&found.script).len(),
+        "trial, {name}: found in script {number}, shrunk from {} lines to: {}{}",
+        text(&script.bytes).len(),
         small.join("; "),
         if short { "" } else { ": TOO LONG" }
     );

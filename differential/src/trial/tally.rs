@@ -7,7 +7,7 @@ use std::collections::BTreeMap;
 /// The numbers by which a call can be refused.
 const REFUSALS: [u32; 6] = [1, 2, 3, 4, 5, 12];
 
-type Counts<K> = BTreeMap<K, u64>;
+pub type Counts<K> = BTreeMap<K, u64>;
 
 #[derive(Default)]
 pub struct Tally {
@@ -149,7 +149,7 @@ fn places() -> usize {
     BODIES.iter().sum()
 }
 
-fn count<K: Ord>(counts: &mut Counts<K>, key: K) {
+pub fn count<K: Ord>(counts: &mut Counts<K>, key: K) {
     *counts.entry(key).or_default() += 1;
 }
 
@@ -159,11 +159,11 @@ fn merge<K: Ord + Copy>(into: &mut Counts<K>, from: &Counts<K>) {
     }
 }
 
-fn sum<K>(counts: &Counts<K>) -> u64 {
+pub fn sum<K>(counts: &Counts<K>) -> u64 {
     counts.values().sum()
 }
 
-fn listed<K: ToString>(counts: &Counts<K>) -> String {
+pub fn listed<K: ToString>(counts: &Counts<K>) -> String {
     let by = counts
         .iter()
         .map(|(k, n)| format!("{}: {n}", k.to_string()));
