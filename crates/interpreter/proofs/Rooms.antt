@@ -6,7 +6,8 @@ use native.Mathlib.Omega.{arith}
 use borrow.Author.Tests.{leb-true, le-leb}
 use lib.Dec.{leb}
 use Rattle.stand.proofs.Tests.{both}
-use Rattle.interpreter.specs.Room.{Lengths, Room, lentOf, roomFor}
+use Rattle.stand.specs.declared.volume.Volume.{Volume}
+use Rattle.interpreter.specs.Room.{Lengths, Room, chunksOf, lentOf, roomFor}
 
 -- the test taken apart, and put together
 pub room-of : (n : ℕ) (l : Lengths) → roomFor n l ≡ true → Room n l
@@ -60,3 +61,7 @@ lent-none n l e = (
     sheet = omega arith;
   },
 )
+
+-- what `held` answers
+pub held-so : {n k : ℕ} (v : Volume) (l : Lengths) → k ≡ chunksOf v → (n ≡ lentOf k l) × Room n l → (n ≡ lentOf (chunksOf v) l) × Room n l
+held-so v l have lend = (lend .0 ∙ ap (λ k. lentOf k l) have, lend .1)

@@ -28,21 +28,16 @@ opened-so {n} {k} m s sheet o size {t} want lend e f =
     ∙ ap (λ (q : Opening). editedOf (openedTurn m (q .answer)) (back n (q .storage) s)) e
     ∙ ap (λ n. openWith n m s o size) (lend ∙ ap (λ k. lentOf k (lengthsIn s sheet)) want)
 
--- the sections that a stand has
-pub held-so : {n k : ℕ} (m : Machine) (s : Storage) (sheet : ℕ) → k ≡ chunksOf (m .volume) → n ≡ lentOf k (lengthsIn s sheet) → n ≡ held m s sheet
-unfolding held
-held-so m s sheet have lend = lend ∙ ap (λ k. lentOf k (lengthsIn s sheet)) have
-
 moved-so : (n : ℕ) (m : Machine) (s : Storage) {a : Answer ℕ} {t : State} {o : Outcome ℕ} {q : Reply} {r : Turn} → outcomeOf a t ≡ o → q ≡ replyOf a → r ≡ turnOf (machineOf (t .volume) (m .marks) (m .stale) (m .cut)) q → editedOf r (back n (storage t) s) ≡ moved n m s o
 moved-so n m s {t = t} e f g =
     ap (λ r. editedOf r (back n (storage t) s)) (g ∙ ap (turnOf (machineOf (t .volume) (m .marks) (m .stale) (m .cut))) f)
     ∙ ap (moved n m s) e
 
-pub set-so : {n k : ℕ} (m : Machine) (s : Storage) (sheet : ℕ) (c : Cell) (v : ℕ) {a : Answer ℕ} {t : State} {q : Reply} {r : Turn} → k ≡ chunksOf (m .volume) → n ≡ lentOf k (lengthsIn s sheet) → outcomeOf a t ≡ setCall (joined (m .volume) (front n s)) c v → q ≡ replyOf a → r ≡ turnOf (machineOf (t .volume) (m .marks) (m .stale) (m .cut)) q → editedOf r (back n (storage t) s) ≡ setStep m s sheet c v
-unfolding setStep setWith
-set-so {n} m s sheet c v have lend e f g = moved-so n m s e f g ∙ ap (λ n. setWith n m s c v) (held-so m s sheet have lend)
+pub set-so : {n : ℕ} (m : Machine) (s : Storage) (sheet : ℕ) (c : Cell) (v : ℕ) {a : Answer ℕ} {t : State} {q : Reply} {r : Turn} → n ≡ lentOf (chunksOf (m .volume)) (lengthsIn s sheet) → outcomeOf a t ≡ setCall (joined (m .volume) (front n s)) c v → q ≡ replyOf a → r ≡ turnOf (machineOf (t .volume) (m .marks) (m .stale) (m .cut)) q → editedOf r (back n (storage t) s) ≡ setStep m s sheet c v
+unfolding setStep setWith held
+set-so {n} m s sheet c v lend e f g = moved-so n m s e f g ∙ ap (λ n. setWith n m s c v) lend
 
-pub fill-so : {n k : ℕ} (m : Machine) (s : Storage) (sheet : ℕ) (c d : Cell) (v : ℕ) {a : Answer ℕ} {t : State} {q : Reply} {r : Turn} → k ≡ chunksOf (m .volume) → n ≡ lentOf k (lengthsIn s sheet) → outcomeOf a t ≡ fillCall (joined (m .volume) (front n s)) c d v → q ≡ replyOf a → r ≡ turnOf (machineOf (t .volume) (m .marks) (m .stale) (m .cut)) q → editedOf r (back n (storage t) s) ≡ fillStep m s sheet c d v
-unfolding fillStep fillWith
-fill-so {n} m s sheet c d v have lend e f g =
-    moved-so n m s e f g ∙ ap (λ n. fillWith n m s c d v) (held-so m s sheet have lend)
+pub fill-so : {n : ℕ} (m : Machine) (s : Storage) (sheet : ℕ) (c d : Cell) (v : ℕ) {a : Answer ℕ} {t : State} {q : Reply} {r : Turn} → n ≡ lentOf (chunksOf (m .volume)) (lengthsIn s sheet) → outcomeOf a t ≡ fillCall (joined (m .volume) (front n s)) c d v → q ≡ replyOf a → r ≡ turnOf (machineOf (t .volume) (m .marks) (m .stale) (m .cut)) q → editedOf r (back n (storage t) s) ≡ fillStep m s sheet c d v
+unfolding fillStep fillWith held
+fill-so {n} m s sheet c d v lend e f g =
+    moved-so n m s e f g ∙ ap (λ n. fillWith n m s c d v) lend

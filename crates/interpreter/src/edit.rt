@@ -7,7 +7,7 @@ ghost use Rattle.interpreter.specs.Run.{editedOf, fillStep, machineOf, o
 use crate::Machine;
 use crate::Reply;
 use crate::Turn;
-use crate::room::chunks_of;
+use crate::room::held;
 use crate::room::lent;
 use crate::room::wanted;
 use stand::Cell;
@@ -128,9 +128,8 @@ pub(crate) fn set(
     ensures { λ r. ⌜ editedOf r (storageOf (now (cells .exit)) (now (hashes .exit)) (now (versions .exit)) (now (log .exit)) (now (last .exit))) ≡ setStep m (storageOf (now (cells .entry)) (now (hashes .entry)) (now (versions .entry)) (now (log .entry)) (now (last .entry))) sheet cell finish ⌝ }
 {
     let v = m.volume;
-    let k = chunks_of(v);
-    let n = lent(
-        k,
+    let n = held(
+        v,
         cells.len(),
         hashes.len(),
         versions.len(),
@@ -148,10 +147,9 @@ pub(crate) fn set(
         cell,
         Voxel(finish),
     );
-    let next = done.volume;
     let answer = done.answer;
     let reply = set_reply(answer);
-    moved(m, next, reply)
+    moved(m, done.volume, reply)
 }
 
 // Kind 3.
@@ -170,9 +168,8 @@ pub(crate) fn fill(
     ensures { λ r. ⌜ editedOf r (storageOf (now (cells .exit)) (now (hashes .exit)) (now (versions .exit)) (now (log .exit)) (now (last .exit))) ≡ fillStep m (storageOf (now (cells .entry)) (now (hashes .entry)) (now (versions .entry)) (now (log .entry)) (now (last .entry))) sheet from to finish ⌝ }
 {
     let v = m.volume;
-    let k = chunks_of(v);
-    let n = lent(
-        k,
+    let n = held(
+        v,
         cells.len(),
         hashes.len(),
         versions.len(),
@@ -191,8 +188,7 @@ pub(crate) fn fill(
         to,
         Voxel(finish),
     );
-    let next = done.volume;
     let answer = done.answer;
     let reply = fill_reply(answer);
-    moved(m, next, reply)
+    moved(m, done.volume, reply)
 }

@@ -25,10 +25,10 @@ fn write_price(generation: u64, row: Row, out: &mut [u8; 96]) -> usize
     ensures { λ r. ⌜ Counts r (now (out .exit)) ⌝ }
     ensures { λ r. ⌜ take r (now (out .exit)) ≡ lineOf (Reply.Price generation row) ⌝ }
 {
-    let panels = append_number(generation, b' ', out, 0);
-    let faces = append_number(row.panels, b' ', out, panels);
-    let cents = append_number(row.faces, b' ', out, faces);
-    append_number(row.cents, b'\n', out, cents)
+    let after_generation = append_number(generation, b' ', out, 0);
+    let after_panels = append_number(row.panels, b' ', out, after_generation);
+    let after_faces = append_number(row.faces, b' ', out, after_panels);
+    append_number(row.cents, b'\n', out, after_faces)
 }
 
 fn write_refused(number: u32, out: &mut [u8; 96]) -> usize

@@ -22,7 +22,7 @@ fn number(a: NumberAnswer) -> u64
 }
 
 // The chunks of a stand, none before the first opening.
-pub(crate) fn chunks_of(v: Volume) -> u64
+fn chunks_of(v: Volume) -> u64
     ensures { λ r. ⌜ r ≡ chunksOf v ⌝ }
 {
     number(v.chunk_count())
@@ -74,4 +74,20 @@ pub(crate) fn lent(
         return 0;
     }
     k
+}
+
+// The chunks of a stand that a call on it is lent.
+pub(crate) fn held(
+    v: Volume,
+    cells: usize,
+    hashes: usize,
+    versions: usize,
+    log: usize,
+    last: usize,
+    sheet: usize,
+) -> usize
+    ensures { λ r. ⌜ (r ≡ lentOf (chunksOf v) (lengthsAt cells hashes versions log last sheet)) × Room r (lengthsAt cells hashes versions log last sheet) ⌝ }
+{
+    let k = chunks_of(v);
+    lent(k, cells, hashes, versions, log, last, sheet)
 }

@@ -1,7 +1,6 @@
 -- A sheet whose mark is the count: every row is right, totals gives the sums, and each visible face was counted once.
 use mathlib.Core.Path.{_≡_, sym, ap, _∙_}
 use mathlib.Core.Bool.{true}
-use mathlib.Core.List.{List, [], _∷_}
 use Prim.Native.Nat.{ℕ, _*_, _<_}
 use native.Mathlib.Omega.{arith}
 use borrow.Author.Tests.{eq-eqb}
@@ -18,10 +17,9 @@ use Rattle.mesh.specs.Merge.{all}
 use Rattle.mesh.specs.Part.{sectionPart}
 use Rattle.mesh.specs.Visible.{shown}
 use Rattle.mesh.specs.declared.Quad.{Quad}
-use Rattle.mesh.proofs.Merged as M
 use Rattle.mesh.proofs.Panels.{Faced, part-faces, part-sum}
 use Rattle.mesh.proofs.Sections.{part-inside, sections-count}
-use Rattle.mesh.proofs.Slices.{sum-same}
+use Rattle.mesh.proofs.Slices.{each-so, sum-same}
 use Rattle.mesh.proofs.Upto.{all-is}
 use Rattle.sheet.specs.Calls.{totalsCall, totalsRefusal}
 use Rattle.sheet.specs.Card.{Terms}
@@ -30,17 +28,12 @@ use Rattle.sheet.specs.Rows.{rowAt, sane, sums}
 use Rattle.sheet.specs.declared.Row.{Row}
 use Rattle.ledger.specs.Book.{Book}
 use Rattle.ledger.specs.Calls.{Four}
-use Rattle.ledger.specs.Claim.{Each, Once, Right, bookSums, panelsOf}
+use Rattle.ledger.specs.Claim.{Once, Right, bookSums, panelsOf}
 use Rattle.ledger.proofs.Rows.{sums-same}
 use Rattle.ledger.proofs.Shows.{Clean, Shown, Shows}
 use Rattle.ledger.proofs.Tells.{Tells}
 
 -- ---- each visible face lies in exactly one panel
-
-each-as : (P Q : Quad → Type 0) → ((q : Quad) → P q → Q q) → (qs : List Quad) → M.Each P qs → Each Q qs
-unfolding Each
-each-as P Q f [] e = tt
-each-as P Q f (q ∷ qs) e = (f q (e .0), each-as P Q f qs (e .1))
 
 abbrev Panelled : Terms → Book → Quad → Type 0
 Panelled t b q = (f : Face) (c : Cell) → covers q f c ≡ true → (inside (b .shape) c ≡ true) × (shown (t .beyond) (b .shape) (b .look) (sideNumber f) c ≡ q .voxel .0)
@@ -50,7 +43,7 @@ face-once t b o =
     record {
       one = λ side l c h. sections-count (t .beyond) (b .shape) (b .look) o side l c h;
       each = λ i l.
-          each-as (λ q. (f : Face) (c : Cell) → covers q f c ≡ true → Faced (t .beyond) (b .shape) (b .look) (sectionPart (b .shape) i) q f c)
+          each-so (λ q. (f : Face) (c : Cell) → covers q f c ≡ true → Faced (t .beyond) (b .shape) (b .look) (sectionPart (b .shape) i) q f c)
           (Panelled t b) (λ q p f c e. (part-inside (b .shape) i c (p f c e .part), p f c e .held))
           (panelsOf t b i) (part-faces (t .beyond) (b .shape) (b .look) (sectionPart (b .shape) i));
     }

@@ -13,9 +13,10 @@ use Rattle.mesh.proofs.Locality.{Agree}
 use Rattle.sheet.specs.Card.{Terms}
 use Rattle.sheet.specs.Row.{measured}
 use Rattle.sheet.specs.Rows.{rowAt, sane}
+use Rattle.sheet.proofs.Steps.{near-sym}
 use Rattle.ledger.specs.Book.{Book, Changed, setAll, setBook, unless, writeFill, writeSet}
 use Rattle.ledger.proofs.Books.{all-changed, all-count-more, all-look, all-shape-kept}
-use Rattle.ledger.proofs.Nearby.{measured-local, near-sym}
+use Rattle.ledger.proofs.Nearby.{measured-local}
 
 -- neither section i nor one that shares a face with it has changed since the mark
 abbrev pub Clean : Book → ℕ → ℕ → Type 0

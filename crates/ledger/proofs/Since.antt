@@ -1,6 +1,6 @@
 -- The walk over the log since a mark gives the sections that the book has noted since.
 use mathlib.Core.Path.{_≡_, refl, sym, ap, _∙_}
-use mathlib.Core.Bool.{Bool, true, false, _||_, false≢true, true≢false}
+use mathlib.Core.Bool.{Bool, true, false, false≢true}
 use mathlib.Core.Logic.{⊎-elim}
 use mathlib.Core.List.{List, [], _∷_, List·Memᴰ, List·Memᴰ·cases-cons, List·Memᴰ·head, List·Memᴰ·not-nil, List·Memᴰ·tail}
 use Prim.Native.Nat.{ℕ, _+_, _-_, _≤_, _<_}
@@ -15,14 +15,11 @@ use Rattle.stand.proofs.Feed.{changed-is, changed-walk, is-changed, walk-change
 use Rattle.stand.proofs.Tests.{by-test}
 use Rattle.mesh.specs.Near.{near}
 use Rattle.sheet.specs.Due.{dueOf, hits, todo}
+use Rattle.sheet.proofs.Tools.{neither}
 use Rattle.ledger.specs.Book.{Book, Changed}
 use Rattle.ledger.proofs.Tells.{Tells}
 
 -- ---- one of a list
-
-pub neither : (a b : Bool) → (a || b) ≡ false → (a ≡ false) × (b ≡ false)
-neither true b e = absurd (true≢false e)
-neither false b e = (refl, e)
 
 none-hits : (p : ℕ → Bool) (ds : List ℕ) → hits p ds ≡ false → (d : ℕ) → List·Memᴰ d ds → p d ≡ false
 unfolding hits

@@ -196,7 +196,7 @@ tells-fill s b c d v t = by-fill s b t c d v (λ (o : Outcome ℕ) (e : Book). T
 
 -- ---- opening, on any storage
 
-rules-pass : (a b : Bool) → a ≡ false → b ≡ false → first ((a ⇒ 1) ∷ (b ⇒ 2) ∷ []) ≡ 0
+pub rules-pass : (a b : Bool) → a ≡ false → b ≡ false → first ((a ⇒ 1) ∷ (b ⇒ 2) ∷ []) ≡ 0
 unfolding first
 rules-pass a b p q = rw (p, q)
 

@@ -11,7 +11,7 @@ use Rattle.stand.specs.Sides.{sideNumber}
 use Rattle.stand.specs.Storage.{Storage, freshState}
 use Rattle.stand.specs.declared.Cell.{Cell}
 use Rattle.stand.specs.declared.Face.{Face}
-use Rattle.mesh.specs.Cover.{coverCount, covers, facesIn, seen, sumTo}
+use Rattle.mesh.specs.Cover.{Each, coverCount, covers, facesIn, seen, sumTo}
 use Rattle.mesh.specs.Near.{near}
 use Rattle.mesh.specs.Panels.{faceOf, partPanels}
 use Rattle.mesh.specs.Part.{sectionPart}
@@ -65,11 +65,6 @@ Keeps t s c = accepted s c ≡ true → KeepsOp t (c .op)
 -- the panels cut from the book's cells of section i
 abbrev pub panelsOf : Terms → Book → ℕ → List Quad
 panelsOf t b i = partPanels (t .beyond) (b .shape) (b .look) (sectionPart (b .shape) i)
-
--- of a list of panels, each is so
-unfoldable pub Each : (Quad → Type 0) → List Quad → Type 0
-Each P [] = Unit {0}
-Each P (q ∷ qs) = P q × Each P qs
 
 -- each visible face lies in exactly one panel of its finish and side
 pub record Once (t : Terms) (b : Book) : Type 0 where

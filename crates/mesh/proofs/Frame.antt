@@ -21,6 +21,7 @@ use Rattle.stand.specs.Sides.{firstAt, normalAt, secondAt, sideNumber}
 use Rattle.stand.specs.Storage.{extentOf}
 use Rattle.stand.specs.declared.volume.shape.Region.{Region}
 use Rattle.mesh.specs.Claims.{ClaimPost}
+use Rattle.mesh.specs.Cover.{Each}
 use Rattle.mesh.specs.Frame.{Lies, StepPost, Wrote, alongFrame, frameOf, nextAt, quadFrom, rectOf}
 use Rattle.mesh.specs.Merge.{Cuts, cutTo, limits, total}
 use Rattle.mesh.specs.Panels.{boxesOf, faceOf, nokey, quadOf, stepsOf}
@@ -31,7 +32,6 @@ use Rattle.mesh.specs.declared.Quad.{Quad}
 use Rattle.mesh.specs.declared.claim.Claim.{Claim}
 use Rattle.mesh.specs.declared.scan.Frame.{Frame}
 use Rattle.mesh.specs.declared.scan.Turn.{Turn}
-use Rattle.mesh.proofs.Merged.{Each}
 use Rattle.mesh.proofs.Scanned.{Fits, asBox, row-jump, row-skip, scan-fits, scan-same, step-claim, step-skip}
 
 -- ---- a panel's numbers

@@ -7,7 +7,7 @@ use native.Mathlib.Nat.{add-le-add, div-lt-iff-lt-mul, mod-lt, mul-zero, le-refl
 use native.Mathlib.Omega.{arith}
 use borrow.Author.Tests.{eq-eqb, leb-true, ltb-false, ltb-true}
 use lib.Dec.{eqb, ltb}
-use lib.IntN.{ℤ, pos, negsuc, _+ℤ_, _-ℤ_, natAbs, +ℤ-assoc, +ℤ-comm, +ℤ-idr, +ℤ-negℤ-cancel}
+use lib.IntN.{ℤ, pos, negsuc, _+ℤ_, _-ℤ_, natAbs, +ℤ-assoc, +ℤ-idr}
 use mir.Syntax.{w32}
 use mir.Val.{SFits}
 use Rattle.arith.proofs.Levels.{number-sum}
@@ -31,16 +31,9 @@ use Rattle.mesh.specs.Visible.{ahead, clears, shown}
 use Rattle.mesh.proofs.Panels.{InSlice, slice-part}
 use Rattle.mesh.proofs.Sections.{chunk-place, part-chunk}
 use Rattle.mesh.proofs.Slices.{table-same}
+use Rattle.mesh.proofs.Step.{below-fits, gone}
 
 -- ---- one step along an axis, n cells from o on
-
-gone : (o z : ℤ) → (o +ℤ z) -ℤ o ≡ z
-gone o z = ap (λ (y : ℤ). y -ℤ o) (+ℤ-comm o z) ∙ +ℤ-negℤ-cancel z o
-
-below-fits : (o : ℤ) → SFits w32 o → 0 < levelOf o → SFits w32 (o +ℤ negsuc 0)
-below-fits (pos zero) f h = record { sfits = omega arith }
-below-fits (pos (suc m)) f h = rw (sub-ge (suc m) 1 (omega arith)) (record { sfits = omega (arith, f .sfits) })
-below-fits (negsuc m) f h = record { sfits = omega arith }
 
 module _ (o : ℤ) (n : ℕ) (f : SFits w32 o) (room : levelOf o + n ≤ 4294967296) (d : ℕ) (l : d < n) where
   -- the step ends at distance e from o, if it ends inside

@@ -9,16 +9,12 @@ use native.Mathlib.Omega.{arith}
 use borrow.Author.Tests.{eqb-true, eqb-false, eq-eqb}
 use lib.Dec.{eqb}
 use lib.ListN.{getD, length}
+use Rattle.mesh.specs.Cover.{Each}
 use Rattle.mesh.specs.Merge.{Dir, Member, Box, Cuts, boxAt, clearBox, cut, cutTo, size, total, limits}
 use Rattle.mesh.proofs.Upto.{row-fits}
 use Rattle.mesh.proofs.Boxes.{nz, nz-one, nonzeros, Some, onto, bound, Geometry, CutOut, cut-out, clear-zero}
 
 -- ---- what the theorem says
-
--- each of the list is so
-abbrev pub Each : {A : Type 0} → (A → Type 0) → List A → Type 0
-Each P [] = Unit {0}
-Each P (x ∷ xs) = P x × Each P xs
 
 unfoldable pub sizes : List Box → ℕ
 sizes [] = 0

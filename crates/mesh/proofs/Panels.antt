@@ -21,7 +21,7 @@ use Rattle.stand.specs.declared.volume.shape.Region.{Region}
 use Rattle.stand.proofs.Shape.{Within, from-distance, inside-from, inside-within}
 use Rattle.stand.proofs.Sides.{six}
 use Rattle.stand.proofs.Tests.{both}
-use Rattle.mesh.specs.Cover.{coverCount, covers, faceSum, facesIn, facesOn, seen, sumTo}
+use Rattle.mesh.specs.Cover.{Each, coverCount, covers, faceSum, facesIn, facesOn, seen, sumTo}
 use Rattle.mesh.specs.Merge.{Box, Member, cutTo, limits, size}
 use Rattle.mesh.specs.Panels.{boxesOf, faceOf, nokey, panelsTo, partPanels, quadOf, sidePanels, slicePanels, stepsOf}
 use Rattle.mesh.specs.Part.{added, cellIn, depthOf, facing, heightOf, onAxis, sliceMask, slotShown, turned, widthOf}
@@ -29,7 +29,7 @@ use Rattle.mesh.specs.Quad.{positive}
 use Rattle.mesh.specs.Visible.{shown}
 use Rattle.mesh.specs.declared.Quad.{Quad}
 use Rattle.mesh.proofs.Facing.{added-assoc, cell-inj, facing-along, facing-back, facing-product, facing-sum, facing-within, from-added, on-axis, part-size, turned-so}
-use Rattle.mesh.proofs.Merged.{Each, Held, each-append, nth, sizes}
+use Rattle.mesh.proofs.Merged.{Held, each-append, nth, sizes}
 use Rattle.mesh.proofs.Slices.{Boxed, Inner, boxes-rect, each-both, each-map, each-nth, each-so, getD-table, inner-member, length-table, member-inner, nonzeros-none, nonzeros-table, nth-each, rect-size, seen-none, seen-one, seen-sum, slice-parted, sum-const, sum-most, sum-none, sum-only, sum-same}
 
 -- ---- the faces of one panel
@@ -467,15 +467,6 @@ face-side North = refl
 face-side South = refl
 
 module _ (beyond : Bool) (g : Shape) (look : Cell → ℕ) (r : Region) where
-  -- panels of different sides or slices have no face in common
-  pub slice-apart : (s k s′ k′ : ℕ) → s < 6 → s′ < 6 → (q q′ : Quad) → Panel beyond g look r s k q → Panel beyond g look r s′ k′ q′
-      → (f : Face) (c : Cell) → covers q f c ≡ true → covers q′ f c ≡ true → (s ≡ s′) × (k ≡ k′)
-  slice-apart s k s′ k′ l l′ q q′ p p′ f c e e′ =
-      let es : s′ ≡ s = p′ .side f c e′ ∙ sym (p .side f c e) in
-      let x = p .reached f c e in
-      let x′ = subst (λ (t : ℕ). Reached g r t k′ (p′ .u) (p′ .v) (p′ .run) (p′ .rows) c) es (p′ .reached f c e′) in
-      (sym es, cell-inj g r s l (sym (x .cell) ∙ x′ .cell) .normal)
-
   panel-faced : (q : Quad) → Listed beyond g look r q → (f : Face) (c : Cell) → covers q f c ≡ true → Faced beyond g look r q f c
   panel-faced q i f c e =
       let p = i .panel in

@@ -8,10 +8,11 @@ use native.Mathlib.Omega.{arith}
 use borrow.Author.Tests.{eqb-false, eq-eqb, ne-eqb}
 use lib.Dec.{eqb}
 use lib.ListN.{getD, length, length-append}
+use Rattle.mesh.specs.Cover.{Each}
 use Rattle.mesh.specs.Merge.{Dir, Box, Cuts, full, all, grow, rep, clearBox, alike, boxAt, cut, cutTo, total, limits}
 use Rattle.mesh.specs.Scan.{Rect, State, fresh, place, slot, runLen, rowsLen, clearRun, clearRect, rectAt, clearOf, stepAt, rowTo, rowsTo, scan}
 use Rattle.mesh.proofs.Boxes.{clear-in}
-use Rattle.mesh.proofs.Merged.{Each, each-append, Parted, merged}
+use Rattle.mesh.proofs.Merged.{each-append, Parted, merged}
 use Rattle.mesh.proofs.Runs.{run-most, run-pass, run-some, rows-most, rows-some}
 
 -- ---- the same cuts

@@ -3,7 +3,7 @@ use mathlib.Core.Path.{_≡_, refl, sym, ap, _∙_}
 use mathlib.Core.Bool.{Bool, true}
 use mathlib.Core.List.{List}
 use Prim.Native.Nat.{ℕ, zero, suc, _+_, _-_, _*_, _/_, _%_, _≤_, _<_, min}
-use native.Mathlib.Nat.{mul-le-mul, zero-add}
+use native.Mathlib.Nat.{mul-le-mul}
 use native.Mathlib.Omega.{arith}
 use lib.ListN.{length}
 use Rattle.stand.specs.Shape.{Shape, cellFrom, chunkOf, chunkPlace, corner, counted, distance, inside, opens, over, pointOf, product, rest, sectionAt, sections}
@@ -13,7 +13,7 @@ use Rattle.stand.specs.declared.volume.shape.Point.{Point}
 use Rattle.stand.proofs.Shape.{Within, chunk-lt, distance-from, from-distance, inside-from, inside-within, stored}
 use Rattle.mesh.specs.Cover.{coverCount, faceSum, facesIn, seen, sumTo}
 use Rattle.mesh.specs.Panels.{faceOf, partPanels}
-use Rattle.mesh.specs.Part.{added, sectionPart, wholePart}
+use Rattle.mesh.specs.Part.{added, sectionPart}
 use Rattle.mesh.specs.Visible.{shown}
 use Rattle.mesh.specs.declared.Quad.{Quad}
 use Rattle.stand.proofs.Slots.{place-section, section-place}
@@ -82,17 +82,6 @@ chunk-part g c o h =
 
     whole : {d p : ℕ} → p ≡ d / 16 → d ≡ p * 16 + d % 16
     whole e = omega arith
-
--- the whole part has the cells inside
-pub whole-part : (g : Shape) (c : Cell) → inside g c ≡ true → InPart g (wholePart g) c
-unfolding wholePart added
-whole-part g c h =
-    let d = distance g c in
-    record {
-      at = d;
-      within = inside-within g c h;
-      cell = sym (from-distance g c h) ∙ ap (cellFrom g) (λ j. pointOf (sym (zero-add (d .x)) j) (sym (zero-add (d .y)) j) (sym (zero-add (d .z)) j));
-    }
 
 -- ---- the panels of the sections
 

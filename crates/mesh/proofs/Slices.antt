@@ -11,12 +11,12 @@ use lib.Arith.{digits-div, digits-mod}
 use lib.Dec.{eqb}
 use lib.ListN.{getD, length, length-append, List·getD-append}
 use lib.Seq.{getD-at}
-use Rattle.mesh.specs.Cover.{seen, sumTo}
+use Rattle.mesh.specs.Cover.{Each, seen, sumTo}
 use Rattle.mesh.specs.Merge.{Box, Cuts, Dir, Member, boxAt, clearBox, cut, cutTo, grow, limits, alike, size, total}
 use Rattle.mesh.specs.Panels.{nokey, stepsOf}
 use Rattle.mesh.specs.Part.{table}
 use Rattle.mesh.proofs.Boxes.{nonzeros, nz}
-use Rattle.mesh.proofs.Merged.{Each, Parted, each-append, merged, nth}
+use Rattle.mesh.proofs.Merged.{Parted, each-append, merged, nth}
 use Rattle.mesh.proofs.Upto.{upto-of}
 
 -- ---- lists of which each is so

@@ -40,7 +40,7 @@ way-down : (s : ℕ) → s % 2 ≡ 1 → wayAt s ≡ negsuc 0
 unfolding wayAt
 way-down s e = rw (ne-eqb (s % 2) 0 (λ h. omega arith))
 
-gone : (o z : ℤ) → (o +ℤ z) -ℤ o ≡ z
+pub gone : (o z : ℤ) → (o +ℤ z) -ℤ o ≡ z
 gone o z = ap (λ (y : ℤ). y -ℤ o) (+ℤ-comm o z) ∙ +ℤ-negℤ-cancel z o
 
 module _ (o : ℤ) (f : SFits w32 o) where
@@ -73,7 +73,7 @@ module _ (o : ℤ) (f : SFits w32 o) where
   unfolding insideOn
   up-out n d l h = rw (up d h) (rw (gone o (pos (d + 1))) (rw (leb·zero (d + 1)) (le-ltb (d + 1) n l)))
 
-below-fits : (o : ℤ) → SFits w32 o → 0 < levelOf o → SFits w32 (o +ℤ negsuc 0)
+pub below-fits : (o : ℤ) → SFits w32 o → 0 < levelOf o → SFits w32 (o +ℤ negsuc 0)
 below-fits (pos zero) f h = record { sfits = omega arith }
 below-fits (pos (suc m)) f h = rw (sub-ge (suc m) 1 (omega arith)) (record { sfits = omega (arith, f .sfits) })
 below-fits (negsuc m) f h = record { sfits = omega arith }

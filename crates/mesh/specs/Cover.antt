@@ -14,6 +14,11 @@ use Rattle.mesh.specs.declared.Quad.{Quad}
 
 -- ---- panels
 
+-- each of the list is so
+abbrev pub Each : {A : Type 0} → (A → Type 0) → List A → Type 0
+Each P [] = Unit {0}
+Each P (x ∷ xs) = P x × Each P xs
+
 -- the panel has the face on side f of cell c: it lies on that side,
 -- and c's exact distance from the panel's cell is 0 to extent - 1 on each axis
 unfoldable pub covers : Quad → Face → Cell → Bool

@@ -1,18 +1,16 @@
 -- The first sections of the lists: lent and given back, they are the lists again.
-use mathlib.Core.Path.{_≡_, sym, _∙_, subst}
+use mathlib.Core.Path.{_≡_, sym, _∙_}
 use mathlib.Core.List.{List, _++_}
 use Prim.Native.Nat.{ℕ, _*_, _≤_}
 use native.Mathlib.Omega.{arith}
-use lib.ListN.{drop, length, take, take-append-drop}
-use lib.Seq.{length-front, length-take-le, take-append-seam}
+use lib.ListN.{drop, length, take-append-drop}
+use lib.Seq.{length-front, length-take-le}
 use Rattle.stand.specs.Storage.{Storage, lengthsOf, storageOf}
 use Rattle.stand.proofs.Storage.{Fitting}
 use Rattle.interpreter.specs.Run.{back, front}
+use Rattle.interpreter.proofs.Prices as P
 
 -- ---- one list
-
-pub front-back-list : (n : ℕ) (xs ys : List ℕ) → length xs ≡ n → take n (xs ++ ys) ≡ xs
-front-back-list n xs ys e = subst (λ k. take k (xs ++ ys) ≡ xs) e (take-append-seam xs ys)
 
 pub length-back : (n k : ℕ) (xs ys : List ℕ) → length xs ≡ n → n ≤ k → length ys ≡ k → length (xs ++ drop n ys) ≡ k
 length-back n k xs ys e h l = length-front ys xs n (e ∙ sym (length-take-le n ys (omega arith))) ∙ l
@@ -38,11 +36,11 @@ module _ (n : ℕ) (t s : Storage) (f : Fitting n (lengthsOf t)) where
   pub front-back : front n (back n t s) ≡ t
   front-back =
       λ i.
-      storageOf (front-back-list (n * 4096) (t .cells) (drop (n * 4096) (s .cells)) (f .cells) i)
-      (front-back-list n (t .hashes) (drop n (s .hashes)) (f .hashes) i)
-      (front-back-list n (t .versions) (drop n (s .versions)) (f .versions) i)
-      (front-back-list n (t .log) (drop n (s .log)) (f .log) i)
-      (front-back-list n (t .last) (drop n (s .last)) (f .last) i)
+      storageOf (P.back-front (n * 4096) (t .cells) (drop (n * 4096) (s .cells)) (f .cells) i)
+      (P.back-front n (t .hashes) (drop n (s .hashes)) (f .hashes) i)
+      (P.back-front n (t .versions) (drop n (s .versions)) (f .versions) i)
+      (P.back-front n (t .log) (drop n (s .log)) (f .log) i)
+      (P.back-front n (t .last) (drop n (s .last)) (f .last) i)
 
   pub full-back : n ≤ 4 → Full s → Full (back n t s)
   full-back h u =

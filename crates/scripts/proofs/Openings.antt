@@ -20,7 +20,7 @@ use Rattle.stand.proofs.Storage.{fits-all, fits-apart}
 use Rattle.stand.proofs.Tests.{by-test, refuted}
 use Rattle.sheet.specs.Card.{Terms}
 use Rattle.ledger.specs.Book.{Book, openBook}
-use Rattle.ledger.proofs.Tells.{tells-fresh}
+use Rattle.ledger.proofs.Tells.{rules-pass, tells-fresh}
 use Rattle.interpreter.specs.Room.{lentOf, wantedOf}
 use Rattle.interpreter.specs.Run.{Edited, back, editedOf, front, lengthsIn, openStep, openWith, openedTurn, turnOf}
 use Rattle.interpreter.specs.declared.Machine.{Machine}
@@ -38,10 +38,6 @@ alike g a b h = go (first (shapeRules g)) refl
     go : (n : ℕ) → first (shapeRules g) ≡ n → first (shapeRules g ++ (a ⇒ 4) ∷ []) ≡ first (shapeRules g ++ (b ⇒ 4) ∷ [])
     go zero e = ap (λ (x : Bool). first (shapeRules g ++ (x ⇒ 4) ∷ [])) (h e)
     go (suc n) e = first-part (shapeRules g) ((a ⇒ 4) ∷ []) (λ z. omega arith) ∙ sym (first-part (shapeRules g) ((b ⇒ 4) ∷ []) (λ z. omega arith))
-
-rules-pass : (a b : Bool) → a ≡ false → b ≡ false → first ((a ⇒ 1) ∷ (b ⇒ 2) ∷ []) ≡ 0
-unfolding first
-rules-pass a b p q = rw (p, q)
 
 -- nothing turns it back: 1 and 2 let it pass, and it has at most 4 sections
 number-passed : (o : Cell) (size : Extent) → openNumber (openedShape o size) ≡ 0 → (first (shapeRules (openedShape o size)) ≡ 0) × (sections (openedShape o size) ≤ 4)

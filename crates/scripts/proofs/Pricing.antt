@@ -23,8 +23,9 @@ use Rattle.ledger.proofs.Shows.{Shows}
 use Rattle.interpreter.specs.Run.{Priced, front, held, measureCall, priceReply, priced, pricedOf, refreshStep, refreshWith, termsIn, turnOf}
 use Rattle.interpreter.specs.declared.Machine.{Machine}
 use Rattle.interpreter.specs.declared.Reply.the-variants as R
+use Rattle.interpreter.proofs.Prices.{back-front}
 use Rattle.scripts.specs.Quotes.{Fair}
-use Rattle.scripts.proofs.Fronts.{Full, front-back-list, length-back}
+use Rattle.scripts.proofs.Fronts.{Full, length-back}
 use Rattle.scripts.proofs.Lending.{held-none}
 use Rattle.scripts.proofs.Refreshing.{by-opened, by-refreshed}
 use Rattle.scripts.proofs.Standing.{Standing, Stands, held-is}
@@ -85,7 +86,7 @@ module _ (m : Machine) (s : Storage) (rates mask sheet : List ℕ) (u : Full s) 
                   n-is = w .n-is;
                   few = w .few;
                   tells = w .tells;
-                  shows = λ _. subst (λ (x : List ℕ). Shows terms (r .sheet) x b) (sym (front-back-list (w .n * 3) rows (drop (w .n * 3) sheet) rows-are)) h;
+                  shows = λ _. subst (λ (x : List ℕ). Shows terms (r .sheet) x b) (sym (back-front (w .n * 3) rows (drop (w .n * 3) sheet) rows-are)) h;
                 };
             fair = fair-line;
           }

@@ -22,6 +22,10 @@ pub or-right : (a b : Bool) → b ≡ true → (a || b) ≡ true
 or-right true b e = refl
 or-right false b e = e
 
+pub neither : (a b : Bool) → (a || b) ≡ false → (a ≡ false) × (b ≡ false)
+neither true b e = absurd (true≢false e)
+neither false b e = (refl, e)
+
 pub or-none : (a : Bool) → (a || false) ≡ a
 or-none true = refl
 or-none false = refl

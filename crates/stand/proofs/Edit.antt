@@ -77,15 +77,6 @@ module _ (s : State) (i v : ℕ) where
   pub put-keeps : {A : Type 0} (f : State → A) → f (changed s i v) ≡ f s → f (put s i v .state) ≡ f s
   put-keeps f e = by-put (λ p. f (p .state) ≡ f s) s i v (λ h. refl) (λ h. e)
 
-  pub put-shape : shape (put s i v .state) ≡ shape s
-  put-shape = put-keeps shape (changed-shape s i v)
-
-  pub put-formed : wellFormed (put s i v .state .volume) ≡ wellFormed (s .volume)
-  put-formed = put-keeps (λ (t : State). wellFormed (t .volume)) (changed-formed s i v)
-
-  pub put-fitting : fitting (put s i v .state) ≡ fitting s
-  put-fitting = put-keeps fitting (changed-fitting s i v)
-
   -- each change is one generation
   pub put-count : put s i v .count ≤ 1
   put-count = by-put (λ p. p .count ≤ 1) s i v (λ h. omega arith) (λ h. omega arith)
@@ -94,9 +85,6 @@ module _ (s : State) (i v : ℕ) where
   unfolding changed advanced
   put-generation =
       by-put (λ p. p .state .volume .generation ≡ s .volume .generation + p .count) s i v (λ h. omega arith) (λ h. refl)
-
-  pub put-generation-le : put s i v .state .volume .generation ≤ s .volume .generation + 1
-  put-generation-le = omega (arith, put-generation, put-count)
 
   -- read after write, and elsewhere
   pub put-same : i < length (s .cells) → getD (put s i v .state .cells) i 0 ≡ v
@@ -209,7 +197,6 @@ by-edited Q (suc k) s e n y = n k refl
 
 -- a set that nothing turns back
 pub record Settable (formed fits : Bool) (g : Shape) (generation old : ℕ) (c : Cell) (v : ℕ) : Type 0 where
-  pub formed-is : formed ≡ true
   pub fits-is : fits ≡ true
   pub inside-is : inside g c ≡ true
   pub room : (old ≡ v → ⊥) → generation ≡ lastGeneration → ⊥
@@ -223,7 +210,6 @@ settable formed fits g generation old c v e =
     let r = passes _ _ _ (q .1) in
     let t = passes _ _ _ (r .1) in
     record {
-      formed-is = not-false _ (p .0);
       fits-is = not-false _ (q .0);
       inside-is = not-false _ (r .0);
       room = λ n m. false≢true (sym (t .0) ∙ rw (eq-eqb _ _ m, ne-eqb _ _ n));

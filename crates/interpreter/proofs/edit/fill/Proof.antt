@@ -5,11 +5,8 @@ use Rattle.io.proofs.Counting.{front}
 use Rattle.interpreter.proofs.edit.fill.Statement.{statement}
 use Rattle.interpreter.proofs.edit.fill.Tie as tie
 
-chunks-of-requires : tie.Need-chunks-of-requires
-chunks-of-requires c κs = search needs
-
-lent-requires : tie.Need-lent-requires
-lent-requires c κs = search needs
+held-requires : tie.Need-held-requires
+held-requires c κs = search needs
 
 mul-most : tie.Need-mul-most
 mul-most c = search needs
@@ -69,14 +66,13 @@ same-length-5 : tie.Need-same-length-5
 same-length-5 c = search needs
 
 returns : tie.Need-returns
-returns c = fill-so _ _ _ _ _ _ (c .before .before .before .before .before .before .before .before .before .before .before .before .before .before .before .before .before .before .before .before .chunks-of .ensures) (c .before .before .before .before .before .before .before .before .before .before .before .before .before .before .before .before .before .before .before .lent .ensures .0) (c .before .before .before .before .before .before .before .before .before .before .before .before .before .fill .ensures) (c .before .fill-reply .ensures) (c .moved .ensures)
+returns c = fill-so _ _ _ _ _ _ (c .before .before .before .before .before .before .before .before .before .before .before .before .before .before .before .before .before .before .held .ensures .0) (c .before .before .before .before .before .before .before .before .before .before .before .before .fill .ensures) (c .before .fill-reply .ensures) (c .moved .ensures)
 
 pub fill-spec : {M : Type 1} → statement M
 fill-spec =
     tie.close
     (tie.spec
-    chunks-of-requires
-    lent-requires
+    held-requires
     mul-most
     slice-relend-prefix-fill
     slice-aggregate-fill

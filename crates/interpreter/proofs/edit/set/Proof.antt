@@ -5,11 +5,8 @@ use Rattle.io.proofs.Counting.{front}
 use Rattle.interpreter.proofs.edit.set.Statement.{statement}
 use Rattle.interpreter.proofs.edit.set.Tie as tie
 
-chunks-of-requires : tie.Need-chunks-of-requires
-chunks-of-requires c κs = search needs
-
-lent-requires : tie.Need-lent-requires
-lent-requires c κs = search needs
+held-requires : tie.Need-held-requires
+held-requires c κs = search needs
 
 mul-most : tie.Need-mul-most
 mul-most c = search needs
@@ -69,14 +66,13 @@ same-length-5 : tie.Need-same-length-5
 same-length-5 c = search needs
 
 returns : tie.Need-returns
-returns c = set-so _ _ _ _ _ (c .before .before .before .before .before .before .before .before .before .before .before .before .before .before .before .before .before .before .before .before .chunks-of .ensures) (c .before .before .before .before .before .before .before .before .before .before .before .before .before .before .before .before .before .before .before .lent .ensures .0) (c .before .before .before .before .before .before .before .before .before .before .before .before .before .set .ensures) (c .before .set-reply .ensures) (c .moved .ensures)
+returns c = set-so _ _ _ _ _ (c .before .before .before .before .before .before .before .before .before .before .before .before .before .before .before .before .before .before .held .ensures .0) (c .before .before .before .before .before .before .before .before .before .before .before .before .set .ensures) (c .before .set-reply .ensures) (c .moved .ensures)
 
 pub set-spec : {M : Type 1} → statement M
 set-spec =
     tie.close
     (tie.spec
-    chunks-of-requires
-    lent-requires
+    held-requires
     mul-most
     slice-relend-prefix-set
     slice-aggregate-set
