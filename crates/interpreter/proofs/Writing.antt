@@ -1,16 +1,18 @@
 -- Laws of a line that is written a part at a time.
-use mathlib.Core.Path.{_≡_, refl, sym, ap, _∙_}
+use mathlib.Core.Path.{_≡_, refl, sym, ap, subst, _∙_}
 use mathlib.Core.Bool.{Bool, true, false}
-use mathlib.Core.List.{List, [], _∷_, _++_, append-assoc, append-nil}
+use mathlib.Core.List.{List, [], _∷_, _++_, append-assoc}
 use Prim.Native.Nat.{ℕ, zero, suc, _+_, _-_, _/_, _%_, _^_, _≤_, _<_}
-use native.Mathlib.Nat.{add-zero, add-assoc, mod-eq-of-lt, pow-suc, pow-le-pow-right}
+use native.Mathlib.Nat.{le-trans, mod-eq-of-lt, pow-suc, pow-le-pow-right}
 use native.Mathlib.Numerals.{add-one, sub-one}
 use native.Mathlib.Omega.{arith}
 use lib.Dec.{leb}
-use lib.ListN.{length, getD, set, take, length-set}
-use lib.Seq.{take-suc, take-suc-set}
-use Rattle.interpreter.specs.Line.{decimal, digitsTo, item, Appended}
+use lib.ListN.{length, getD, set, take, drop, length-set}
+use lib.Seq.{take-all, take-suc-set, drop-set-lt, drop-drop, paste, paste-suc, length-paste, take-paste, drop-paste}
+use Rattle.interpreter.specs.Line.{decimal, digitsTo, item, lineOf, Appended}
+use Rattle.interpreter.specs.declared.Reply.{Reply}
 use Rattle.io.proofs.Counting.{counts}
+use Rattle.io.specs.Counts.{Counts}
 use Rattle.io.specs.Digits.{digits, Fewest}
 use borrow.Author.Tests.{lt-ltb, le-ltb, leb-true, leb-false}
 
@@ -20,21 +22,43 @@ use borrow.Author.Tests.{lt-ltb, le-ltb, leb-true, leb-false}
 put : (d : List ℕ) (k v : ℕ) {s : List ℕ} → k < length d → take k d ≡ s → take (k + 1) (set d k v) ≡ s ++ (v ∷ [])
 put d k v h e = ap (λ n. take n (set d k v)) (add-one k) ∙ take-suc-set d k v h ∙ ap (λ r. r ++ (v ∷ [])) e
 
-module _ (d₀ s : List ℕ) (at : ℕ) where
-  pub append-none : take (at + 0) d₀ ≡ take at d₀ ++ take 0 s
-  append-none = ap (λ k. take k d₀) (add-zero at) ∙ sym (append-nil (take at d₀))
+-- a copy of a text, a byte at a time
+module _ (d₀ s d : List ℕ) (at i : ℕ) (e : d ≡ paste d₀ at s i) where
+  pub append-more : at + i < length d₀ → i < length s → set d (at + i) (getD s i 0) ≡ paste d₀ at s (i + 1)
+  append-more h l =
+      ap (λ c. set c (at + i) (getD s i 0)) e ∙ paste-suc d₀ at s i 0 h l ∙ ap (λ k. paste d₀ at s k) (sym (add-one i))
 
-  pub append-more : (d : List ℕ) (i : ℕ) → at + i < length d → i < length s → take (at + i) d ≡ take at d₀ ++ take i s
-      → take (at + (i + 1)) (set d (at + i) (getD s i 0)) ≡ take at d₀ ++ take (i + 1) s
-  append-more d i h l e =
-      ap (λ k. take k (set d (at + i) (getD s i 0))) (sym (add-assoc at i 1))
-      ∙ put d (at + i) (getD s i 0) h e
-      ∙ append-assoc (take at d₀) (take i s) (getD s i 0 ∷ [])
-      ∙ ap (λ r. take at d₀ ++ r) (sym (take-suc s i 0 l) ∙ ap (λ k. take k s) (sym (add-one i)))
+  pub append-all : at + i ≤ length d₀ → i ≡ length s → Appended s d₀ at d (at + i)
+  append-all h l = record {
+    counts = counts (at + i) d (rw (e, length-paste d₀ at s i h (omega arith)) h);
+    on = omega arith;
+    said =
+        ap (take (at + i)) e
+        ∙ take-paste d₀ at s i (omega arith) (omega arith)
+        ∙ ap (λ r. take at d₀ ++ r) (take-all i s (omega arith));
+    rest = ap (drop (at + i)) e ∙ drop-paste d₀ at s i (omega arith) (omega arith);
+  }
+
+-- lists that agree from m on agree from further on
+further : (m n : ℕ) (xs ys : List ℕ) → m ≤ n → drop m xs ≡ drop m ys → drop n xs ≡ drop n ys
+further m n xs ys h e =
+    let s : m + (n - m) ≡ n = omega arith in
+    subst (λ k. drop k xs ≡ drop k ys) s (sym (drop-drop (n - m) m xs) ∙ ap (drop (n - m)) e ∙ drop-drop (n - m) m ys)
 
 -- a text behind a text
-pub behind : {text before after text₀ : List ℕ} {at r : ℕ} → take at before ≡ text₀ → Appended text before at after r → take r after ≡ text₀ ++ text
-behind {text} e a = a .said ∙ ap (λ t. t ++ text) e
+pub behind : {text₀ text before mid after : List ℕ} {at m r : ℕ} → Appended text₀ before at mid m → Appended text mid m after r
+    → Appended (text₀ ++ text) before at after r
+behind {text₀} {text} {before} {mid} {after} {at} {m} {r} a b = record {
+  counts = b .counts;
+  on = le-trans (a .on) (b .on);
+  said = b .said ∙ ap (λ t. t ++ text) (a .said) ∙ append-assoc (take at before) text₀ text;
+  rest = b .rest ∙ further m r mid before (b .on) (a .rest);
+}
+
+-- a whole line
+pub written : {reply told : Reply} {before after : List ℕ} {r : ℕ} → reply ≡ told → Appended (lineOf told) before 0 after r
+    → Counts r after × ((take r after ≡ lineOf reply) × (drop r after ≡ drop r before))
+written e a = (a .counts, (a .said ∙ sym (ap lineOf e), a .rest))
 
 -- ---- numbers
 
@@ -78,8 +102,10 @@ pub put-number : (out₀ out₁ d : List ℕ) (at k n v r : ℕ) → n < 10 ^ 20
 unfolding item
 put-number out₀ out₁ d at k n v r h f e a l = record {
   counts = counts (r + 1) (set out₁ r v) (rw (length-set out₁ r v) (omega arith));
+  on = omega (arith, a .on);
   said =
       put out₁ r v l (a .said)
       ∙ append-assoc (take at out₀) (take k d) (v ∷ [])
       ∙ ap (λ t. take at out₀ ++ (t ++ (v ∷ []))) (e ∙ digits-decimal k n (few k n h f) f);
+  rest = drop-set-lt (r + 1) out₁ r v (omega arith) ∙ further r (r + 1) out₁ out₀ (omega arith) (a .rest);
 }

@@ -2,9 +2,9 @@
 use mathlib.Core.Path.{_≡_}
 use mathlib.Core.Bool.{cond}
 use mathlib.Core.List.{List, [], _∷_, _++_}
-use Prim.Native.Nat.{ℕ, zero, suc, _+_, _/_, _%_}
+use Prim.Native.Nat.{ℕ, zero, suc, _+_, _/_, _%_, _≤_}
 use lib.Dec.{ltb}
-use lib.ListN.{take}
+use lib.ListN.{take, drop}
 use Rattle.interpreter.specs.declared.Reply.{Reply}
 use Rattle.interpreter.specs.declared.Reply.the-variants.{Quiet, Price, Refused, Broken}
 use Rattle.io.specs.Counts.{Counts}
@@ -40,7 +40,9 @@ lineOf Broken = brokenText
 
 -- ---- writing
 
--- r bytes stand in `after`: the first `at` of `before`, and then the text
+-- r bytes stand in `after`: the first `at` of `before`, and then the text; what follows is as it was
 pub record Appended (text before : List ℕ) (at : ℕ) (after : List ℕ) (r : ℕ) : Type 0 where
   pub counts : Counts r after
+  pub on : at ≤ r
   pub said : take r after ≡ take at before ++ text
+  pub rest : drop r after ≡ drop r before

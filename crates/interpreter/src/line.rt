@@ -1,17 +1,17 @@
 // The line that a reply prints (document 01, 'Trial program'), in ASCII.
 ghost use mathlib.Core.Path.{_≡_};
 ghost use Prim.Native.Nat.{_+_, _≤_};
-ghost use lib.ListN.{length, take};
+ghost use lib.ListN.{drop, length, take};
 ghost use Rattle.io.specs.Counts.{Counts};
 ghost use Rattle.interpreter.specs.Line.{Appended, item, lineOf};
 use crate::Reply;
 use io::decimal;
 use sheet::Row;
 
-// Puts the reply's line at the start of out, and answers its length. Rules out a line with no end, zeros in front of a number, and another order of the numbers.
+// Puts the reply's line at the start of out, and answers its length. Rules out a line with no end, zeros in front of a number, another order of the numbers, and a byte changed behind the line.
 pub fn write_line(reply: Reply, out: &mut [u8; 96]) -> usize
     ensures { λ r. ⌜ Counts r (now (out .exit)) ⌝ }
-    ensures { λ r. ⌜ take r (now (out .exit)) ≡ lineOf reply ⌝ }
+    ensures { λ r. ⌜ (take r (now (out .exit)) ≡ lineOf reply) × (drop r (now (out .exit)) ≡ drop r (now (out .entry))) ⌝ }
 {
     match reply {
         Reply::Quiet => 0,
@@ -22,8 +22,7 @@ pub fn write_line(reply: Reply, out: &mut [u8; 96]) -> usize
 }
 
 fn write_price(generation: u64, row: Row, out: &mut [u8; 96]) -> usize
-    ensures { λ r. ⌜ Counts r (now (out .exit)) ⌝ }
-    ensures { λ r. ⌜ take r (now (out .exit)) ≡ lineOf (Reply.Price generation row) ⌝ }
+    ensures { λ r. ⌜ Appended (lineOf (Reply.Price generation row)) (now (out .entry)) 0 (now (out .exit)) r ⌝ }
 {
     let after_generation = append_number(generation, b' ', out, 0);
     let after_panels = append_number(row.panels, b' ', out, after_generation);
@@ -32,8 +31,7 @@ fn write_price(generation: u64, row: Row, out: &mut [u8; 96]) -> usize
 }
 
 fn write_refused(number: u32, out: &mut [u8; 96]) -> usize
-    ensures { λ r. ⌜ Counts r (now (out .exit)) ⌝ }
-    ensures { λ r. ⌜ take r (now (out .exit)) ≡ lineOf (Reply.Refused number) ⌝ }
+    ensures { λ r. ⌜ Appended (lineOf (Reply.Refused number)) (now (out .entry)) 0 (now (out .exit)) r ⌝ }
 {
     let at = append(b"refused ", out, 0);
     append_number(number as u64, b'\n', out, at)

@@ -1,24 +1,22 @@
 -- `interpreter::line::append` meets its contract.
-use mathlib.Core.Path.{_≡_, ap, _∙_}
-use mathlib.Core.List.{_++_}
+use mathlib.Core.Path.{_≡_}
 use Prim.Native.Nat.{_+_, _-_, _≤_}
 use native.Mathlib.Omega.{arith}
-use lib.ListN.{length, take}
-use lib.Seq.{take-all}
-use Rattle.io.proofs.Counting.{counts}
+use lib.ListN.{length}
+use lib.Seq.{paste, paste-zero}
 use borrow.Author.Needs.{needs}
-use Rattle.interpreter.proofs.Writing.{append-more, append-none}
+use Rattle.interpreter.proofs.Writing.{append-all, append-more}
 use Rattle.interpreter.proofs.line.append.Statement.{statement}
 use Rattle.interpreter.proofs.line.append.Tie as tie
 
 abbrev Inv-loop : tie.InvT-loop
-Inv-loop text out₀ at i₀ out i = (i ≤ length text) × (length out ≡ length out₀) × (take (at + i) out ≡ take at out₀ ++ take i text)
+Inv-loop text out₀ at i₀ out i = (i ≤ length text) × (length out ≡ length out₀) × (out ≡ paste out₀ at text i)
 
 abbrev μ-loop : tie.MeasureT-loop
 μ-loop text out₀ at i₀ out i = length text - i
 
 loop-holds : tie.Need-loop-holds Inv-loop μ-loop
-loop-holds c = (search needs, search needs, append-none (c .args .out .now) (c .args .text .now) (c .args .at))
+loop-holds c = (search needs, search needs, paste-zero (c .args .out .now) (c .args .at) (c .args .text .now))
 
 shared-slice-read-out : tie.Need-shared-slice-read-out Inv-loop μ-loop
 shared-slice-read-out c = search needs
@@ -39,7 +37,7 @@ loop-again : tie.Need-loop-again Inv-loop μ-loop
 loop-again c =
     let a = c .before .before in
     let b = a .before .args in
-    (search needs, search needs, append-more (b .out .now) (b .text .now) (b .at) (a .loop .out) (a .loop .i) (omega arith) (c .before .loop-test .taken) (a .loop .inv .2))
+    (search needs, search needs, append-more (b .out .now) (b .text .now) (a .loop .out) (b .at) (a .loop .i) (a .loop .inv .2) (omega arith) (c .before .loop-test .taken))
 
 add-result : tie.Need-add-result Inv-loop μ-loop
 add-result c = search needs
@@ -51,10 +49,7 @@ returns : tie.Need-returns Inv-loop μ-loop
 returns c =
     let a = c .before in
     let b = a .before .args in (
-      record {
-        counts = counts (b .at + a .loop .i) (a .loop .out) (omega arith);
-        said = a .loop .inv .2 ∙ ap (λ r. take (b .at) (b .out .now) ++ r) (take-all (a .loop .i) (b .text .now) (c .loop-test .left));
-      },
+      append-all (b .out .now) (b .text .now) (a .loop .out) (b .at) (a .loop .i) (a .loop .inv .2) (omega arith) (omega arith),
       omega arith,
     )
 

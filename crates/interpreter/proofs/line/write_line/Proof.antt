@@ -1,8 +1,9 @@
 -- `interpreter::line::write_line` meets its contract.
-use mathlib.Core.Path.{refl, sym, ap, _∙_}
+use mathlib.Core.Path.{refl, sym, ap}
 use native.Mathlib.Omega.{arith}
 use Rattle.interpreter.specs.Line.{lineOf}
 use borrow.Author.Needs.{needs}
+use Rattle.interpreter.proofs.Writing.{written}
 use Rattle.interpreter.proofs.line.write_line.Statement.{statement}
 use Rattle.interpreter.proofs.line.write_line.Tie as tie
 
@@ -32,17 +33,17 @@ append-requires c κs = search needs
 
 returns : tie.Need-returns
 unfolding lineOf
-returns c = ((omega arith, refl), sym (ap lineOf (c .enum-told .given .1)))
+returns c = ((omega arith, refl), (sym (ap lineOf (c .enum-told .given .1)), refl))
 
 returns-2 : tie.Need-returns-2
-returns-2 c = (c .write-price .ensures .0, c .write-price .ensures .1 ∙ sym (ap lineOf (c .before .before .before .reply .given .1)))
+returns-2 c = written (c .before .before .before .reply .given .1) (c .write-price .ensures)
 
 returns-3 : tie.Need-returns-3
-returns-3 c = (c .write-refused .ensures .0, c .write-refused .ensures .1 ∙ sym (ap lineOf (c .before .before .before .reply2 .given .1)))
+returns-3 c = written (c .before .before .before .reply2 .given .1) (c .write-refused .ensures)
 
 returns-4 : tie.Need-returns-4
 unfolding lineOf
-returns-4 c = (c .append .ensures .0 .counts, c .append .ensures .0 .said ∙ sym (ap lineOf (c .before .before .before .enum-told2 .given .1)))
+returns-4 c = written (c .before .before .before .enum-told2 .given .1) (c .append .ensures .0)
 
 pub write-line-spec : {M : Type 1} → statement M
 write-line-spec =

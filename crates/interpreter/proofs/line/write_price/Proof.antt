@@ -24,7 +24,7 @@ returns c =
     let faces = c .before .before .before .before .append-number2 .ensures .0 in
     let cents = c .before .before .append-number3 .ensures .0 in
     let done = c .append-number4 .ensures .0 in
-    (done .counts, behind (behind (behind (panels .said) faces) cents) done)
+    behind (behind (behind panels faces) cents) done
 
 pub write-price-spec : {M : Type 1} → statement M
 write-price-spec =

@@ -16,7 +16,7 @@ append-number-requires c κs = search needs
 
 returns : tie.Need-returns
 unfolding lineOf
-returns c = (c .append-number .ensures .0 .counts, behind (c .before .before .append .ensures .0 .said) (c .append-number .ensures .0))
+returns c = behind (c .before .before .append .ensures .0) (c .append-number .ensures .0)
 
 pub write-refused-spec : {M : Type 1} → statement M
 write-refused-spec =
