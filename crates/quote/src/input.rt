@@ -1,7 +1,8 @@
 // The lines of standard input.
 ghost use Prim.Native.Nat.{_≤_};
 ghost use lib.ListN.{length};
-ghost use Rattle.quote.specs.Input.{within};
+ghost use Rattle.quote.specs.Input.{lastLine, within};
+ghost use mathlib.Core.Path.{_≡_};
 use libc::STDIN_FILENO;
 
 pub(crate) enum Input {
@@ -35,7 +36,7 @@ pub(crate) fn read_line(line: &mut [u8]) -> Input
 
 // Where the text ends: a last line may have no end.
 fn ended(n: usize) -> Input
-    ensures { λ r. ⌜ within r ≤ n ⌝ }
+    ensures { λ r. ⌜ r ≡ lastLine n ⌝ }
 {
     if n == 0 {
         return Input::End;

@@ -1,5 +1,8 @@
 // One call: read, made and answered.
-ghost use Prim.Native.Nat.{_≤_};
+ghost use mathlib.Core.Path.{_≡_};
+ghost use Prim.Native.Nat.{_≤_, max};
+ghost use Rattle.interpreter.specs.Decode.{lengthOf};
+ghost use Rattle.trial.specs.Turn.{isBroken};
 ghost use lib.ListN.{length};
 use interpreter::Machine;
 use interpreter::Reply;
@@ -17,7 +20,7 @@ pub(crate) struct Taken {
 
 // The bytes to read of a call, its kind byte among them: that byte alone where the kind is unknown.
 fn to_read(kind: u8) -> usize
-    ensures { λ r. ⌜ (1 ≤ r) × (r ≤ 27) ⌝ }
+    ensures { λ r. ⌜ (r ≡ max 1 (lengthOf kind)) × (r ≤ 27) ⌝ }
 {
     let n = call_length(kind);
     if n < 1 {
@@ -35,14 +38,21 @@ fn read_body(bytes: &mut [u8], n: usize) -> usize
     more + 1
 }
 
-// Prints the reply; whether the script stops there.
-fn say(reply: Reply) -> bool {
+fn print(reply: Reply) {
     let mut out = [0u8; 96];
     let n = write_line(reply, &mut out);
     io::write_all(STDOUT_FILENO, &out[..n]);
+}
+
+// Whether the script stops after a reply.
+fn ends(reply: Reply) -> bool
+    ensures { λ r. ⌜ r ≡ isBroken reply ⌝ }
+{
     match reply {
+        Reply::Quiet => false,
+        Reply::Price(_, _) => false,
+        Reply::Refused(_) => false,
         Reply::Broken => true,
-        _ => false,
     }
 }
 
@@ -84,6 +94,7 @@ pub(crate) fn turn(
     );
     let reply = t.reply;
     let machine = t.machine;
-    let over = say(reply);
+    print(reply);
+    let over = ends(reply);
     Taken { machine, over }
 }

@@ -2,6 +2,7 @@
 use mathlib.Core.Path.{_≡_}
 use Prim.Native.Nat.{_-_, _≤_}
 use lib.ListN.{length}
+use Rattle.quote.proofs.Inputs.{last-fits}
 use borrow.Author.Needs.{needs}
 use Rattle.quote.proofs.input.read_line.Statement.{statement}
 use Rattle.quote.proofs.input.read_line.Tie as tie
@@ -28,7 +29,7 @@ same-length : tie.Need-same-length Inv-loop μ-loop
 same-length c = search needs
 
 returns : tie.Need-returns Inv-loop μ-loop
-returns c = search needs
+returns c = last-fits _ _ (c .ended .ensures) (search needs)
 
 array-read-b : tie.Need-array-read-b Inv-loop μ-loop
 array-read-b c = search needs

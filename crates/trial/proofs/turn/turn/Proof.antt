@@ -37,8 +37,11 @@ slice-aggregate-step c = front _ _ (search needs)
 step-requires : tie.Need-step-requires
 step-requires c κs = search needs
 
-say-requires : tie.Need-say-requires
-say-requires c κs = search needs
+print-requires : tie.Need-print-requires
+print-requires c κs = search needs
+
+ends-requires : tie.Need-ends-requires
+ends-requires c κs = search needs
 
 returns-2 : tie.Need-returns-2
 returns-2 c = search needs
@@ -58,5 +61,6 @@ turn-spec =
     array-share-prefix-bytes
     slice-aggregate-step
     step-requires
-    say-requires
+    print-requires
+    ends-requires
     returns-2)

@@ -1,0 +1,2 @@
+-- The definitions that the contracts of `trial` cite.
+pub mod Turn
