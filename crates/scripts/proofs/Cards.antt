@@ -27,7 +27,7 @@ stale-stands : (m : Machine) (s : Storage) (t t′ : Terms) (sheet : List ℕ) (
 unfolding Standing
 stale-stands m s t t′ sheet c none w = w
 stale-stands m s t t′ sheet c (some b) w =
-    record { n = w .n; n-is = w .n-is; few = w .few; tells = w .tells; shows = λ f. absurd (true≢false f) }
+    record { n = w .n; n-is = w .n-is; few = w .few; tells = w .tells; shows = λ f. absurd (true≢false f); payable = λ f. absurd (true≢false f) }
 
 -- the program's list has the rates of all finishes up to 63
 listed-is : (f : ℕ) (rates : List ℕ) → length rates ≡ 64 → listed f rates ≡ (leb 1 f && leb f 63)

@@ -1,7 +1,7 @@
 -- A set and a fill of the program, beside the page.
 use mathlib.Core.Path.{_≡_, refl, sym, ap, _∙_, subst}
 use mathlib.Core.Bool.{true, false}
-use mathlib.Core.List.{List}
+use mathlib.Core.List.{List, [], _∷_}
 use mathlib.Core.Option.{Option, none, some}
 use Prim.Native.Nat.{ℕ, _*_}
 use lib.ListN.{take}
@@ -21,6 +21,7 @@ use Rattle.interpreter.specs.declared.Machine.{Machine}
 use Rattle.scripts.specs.Page.{fillOn, onBook, setOn}
 use Rattle.scripts.proofs.Fronts.{Full, back-front, full-back}
 use Rattle.scripts.proofs.Lending.{held-none}
+use Rattle.scripts.proofs.Payable.{Payable, payable-all}
 use Rattle.scripts.proofs.Standing.{Standing, Stands, given-back, held-is}
 
 -- ---- what the page writes is what the book does
@@ -59,6 +60,16 @@ fill-shape : (b : Book) (c d : Cell) (v : ℕ) → fillOn c d v b .shape ≡ b .
 unfolding fillOn
 fill-shape b c d v = unless-so (λ (e : Book). e .shape ≡ b .shape) _ b _ refl (all-shape-kept _ b v)
 
+set-payable : (b : Book) (c : Cell) (v : ℕ) {t : Terms} {mark : ℕ} {sheet : List ℕ} → Shows t mark sheet b → Payable t mark b → Payable t mark (setOn c v b)
+unfolding setOn setAll
+set-payable b c v {t} {mark} {sheet} h p =
+    unless-so (λ (d : Book). Payable t mark d) _ b (setBook b c v) p (payable-all t mark b (c ∷ []) v (h .opened) (h .ranged) (h .mark-le) p)
+
+fill-payable : (b : Book) (c d : Cell) (v : ℕ) {t : Terms} {mark : ℕ} {sheet : List ℕ} → Shows t mark sheet b → Payable t mark b → Payable t mark (fillOn c d v b)
+unfolding fillOn
+fill-payable b c d v {t} {mark} {sheet} h p =
+    unless-so (λ (e : Book). Payable t mark e) _ b _ p (payable-all t mark b _ v (h .opened) (h .ranged) (h .mark-le) p)
+
 -- ---- after an edit
 
 -- storage keeps its lengths, and the stand its book
@@ -71,15 +82,16 @@ module _ (m : Machine) (s : Storage) (t : Terms) (sheet : List ℕ) (u : Full s)
   -- an outcome that tells of a book of the same shape
   moved-kept : (b b′ : Book) (w : Stands m s t sheet b) (o : Outcome ℕ) → b′ .shape ≡ b .shape → Tells (o .state) b′
       → (Shows t (m .marks .sheet) (take (w .n * 3) sheet) b → Shows t (m .marks .sheet) (take (w .n * 3) sheet) b′)
+      → (Shows t (m .marks .sheet) (take (w .n * 3) sheet) b → Payable t (m .marks .sheet) b → Payable t (m .marks .sheet) b′)
       → Kept (moved (w .n) m s o) m t sheet (some b′)
   unfolding Standing
-  moved-kept b b′ w o g k h =
+  moved-kept b b′ w o g k h p =
       let e : w .n ≡ sections (b′ .shape) = w .n-is ∙ ap sections (sym g) in
       let r = given-back (w .n) (o .state) s b′ e k in
       record {
         full = full-back (w .n) (storage (o .state)) s (r .0) (w .few) u;
         cut-is = refl;
-        standing = record { n = w .n; n-is = e; few = w .few; tells = r .1; shows = λ q. h (w .shows q) };
+        standing = record { n = w .n; n-is = e; few = w .few; tells = r .1; shows = λ q. h (w .shows q); payable = λ q. p (w .shows q) (w .payable q) };
       }
 
   -- before the first opening 3 turns an edit back
@@ -111,7 +123,7 @@ module _ (m : Machine) (s : Storage) (t : Terms) (sheet : List ℕ) (u : Full s)
   set-kept c v (some b) w =
       subst (λ n. Kept (setWith n m s c v) m t sheet (some (setOn c v b))) (sym (held-is w u k q))
       (moved-kept m s t sheet u b (setOn c v b) w (setCall (joined (m .volume) (front (w .n) s)) c v) (set-shape b c v)
-      (set-tells (joined (m .volume) (front (w .n) s)) b (w .tells) c v) (set-shows (joined (m .volume) (front (w .n) s)) b (w .tells) c v))
+      (set-tells (joined (m .volume) (front (w .n) s)) b (w .tells) c v) (set-shows (joined (m .volume) (front (w .n) s)) b (w .tells) c v) (set-payable b c v))
 
   pub fill-kept : (c d : Cell) (v : ℕ) (b : Option Book) → Standing m s t sheet b → Kept (fillStep m s k c d v) m t sheet (onBook (fillOn c d v) b)
   unfolding Standing fillStep fillWith onBook
@@ -121,4 +133,4 @@ module _ (m : Machine) (s : Storage) (t : Terms) (sheet : List ℕ) (u : Full s)
   fill-kept c d v (some b) w =
       subst (λ n. Kept (fillWith n m s c d v) m t sheet (some (fillOn c d v b))) (sym (held-is w u k q))
       (moved-kept m s t sheet u b (fillOn c d v b) w (fillCall (joined (m .volume) (front (w .n) s)) c d v) (fill-shape b c d v)
-      (fill-tells (joined (m .volume) (front (w .n) s)) b (w .tells) c d v) (fill-shows (joined (m .volume) (front (w .n) s)) b (w .tells) c d v))
+      (fill-tells (joined (m .volume) (front (w .n) s)) b (w .tells) c d v) (fill-shows (joined (m .volume) (front (w .n) s)) b (w .tells) c d v) (fill-payable b c d v))

@@ -4,6 +4,7 @@ pub mod Edits
 pub mod Fronts
 pub mod Lending
 pub mod Openings
+pub mod Payable
 pub mod Pricing
 pub mod Quoted
 pub mod Refreshing

@@ -105,7 +105,7 @@ module _ (m : Machine) (s : Storage) (t : Terms) (sheet : List ℕ) (u : Full s)
       record {
         full = full-back (sections g) (freshStorage (sections g)) s (q .0) (p .1) u;
         cut-is = refl;
-        standing = record { n = sections g; n-is = refl; few = p .1; tells = q .1; shows = λ f. absurd (true≢false f) };
+        standing = record { n = sections g; n-is = refl; few = p .1; tells = q .1; shows = λ f. absurd (true≢false f); payable = λ f. absurd (true≢false f) };
       }
 
   pub open-kept : (k : ℕ) → k ≡ 12 → Ranged o → (b : Option Book) → Standing m s t sheet b

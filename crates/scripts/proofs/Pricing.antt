@@ -27,7 +27,7 @@ use Rattle.interpreter.proofs.Prices.{back-front}
 use Rattle.scripts.specs.Quotes.{Fair}
 use Rattle.scripts.proofs.Fronts.{Full, length-back}
 use Rattle.scripts.proofs.Lending.{held-none}
-use Rattle.scripts.proofs.Refreshing.{by-opened, by-refreshed}
+use Rattle.scripts.proofs.Refreshing.{Anew, by-opened, by-refreshed}
 use Rattle.scripts.proofs.Standing.{Standing, Stands, held-is}
 
 -- a price line is no refusal
@@ -61,18 +61,26 @@ module _ (m : Machine) (s : Storage) (rates mask sheet : List ℕ) (u : Full s) 
     abbrev four : Marks → List ℕ → Four
     four r rows = record { state = joined (m .volume) (front (w .n) s); marks = r; sheet = rows }
 
-    module _ (r : Marks) (rows : List ℕ) (h : Shows terms (r .sheet) rows b) (e : r .sheet ≡ b .count) where
+    module _ (r : Marks) (rows : List ℕ) (a : Anew terms b (r .sheet) rows) where
       rows-are : length rows ≡ w .n * 3
-      rows-are = h .length-is ∙ ap (λ n. n * 3) (sym (w .n-is))
+      rows-are = a .shows .length-is ∙ ap (λ n. n * 3) (sym (w .n-is))
 
       fair-line : (generation : ℕ) (row : Row) → priceReply (m .volume .generation) (totalsCall (m .volume) rows) ≡ R.Price generation row
           → Fair (record { book = some b; rates = rates; cut = m .cut }) generation row
       fair-line generation row p =
-          let g = right terms (four r rows) b (w .tells) h e in
+          let g = right terms (four r rows) b (w .tells) (a .shows) (a .mark-is) in
           let line : R.Price (m .volume .generation) (bookSums terms b) ≡ R.Price generation row = sym (ap (priceReply (m .volume .generation)) (g .totals-are)) ∙ p in
           let c : m .volume .generation ≡ generation = cc in
           let d : bookSums terms b ≡ row = cc in
-          record { book = b; stand = refl; count-is = sym c ∙ w .tells .count-is; sums-are = sym d; faces-once = g .faces-once }
+          record {
+            book = b;
+            stand = refl;
+            count-is = sym c ∙ w .tells .count-is;
+            sums-are = sym d;
+            faces-once = g .faces-once;
+            cut-within = a .cut-in;
+            rated = a .priced-all;
+          }
 
       done : (l : List ℕ) → Line (some b) (priced (w .n) m sheet (C.outcomeOf C.done r l rows))
       unfolding Standing
@@ -86,7 +94,8 @@ module _ (m : Machine) (s : Storage) (rates mask sheet : List ℕ) (u : Full s) 
                   n-is = w .n-is;
                   few = w .few;
                   tells = w .tells;
-                  shows = λ _. subst (λ (x : List ℕ). Shows terms (r .sheet) x b) (sym (back-front (w .n * 3) rows (drop (w .n * 3) sheet) rows-are)) h;
+                  shows = λ _. subst (λ (x : List ℕ). Shows terms (r .sheet) x b) (sym (back-front (w .n * 3) rows (drop (w .n * 3) sheet) rows-are)) (a .shows);
+                  payable = λ _ i h _. a .priced-all i h;
                 };
             fair = fair-line;
           }
@@ -101,8 +110,8 @@ module _ (m : Machine) (s : Storage) (rates mask sheet : List ℕ) (u : Full s) 
     unfolding Standing
     back j = turned (w .n) (suc j) (some b) w
 
-    onward : (r : Marks) (l rows : List ℕ) → Shows terms (r .sheet) rows b × (r .sheet ≡ b .count) → After (C.outcomeOf C.done r l rows)
-    onward r l rows h = done r rows (h .0) (h .1) l
+    onward : (r : Marks) (l rows : List ℕ) → Anew terms b (r .sheet) rows → After (C.outcomeOf C.done r l rows)
+    onward r l rows a = done r rows a l
 
     measured : Line (some b) (refreshWith (w .n) m s rates mask sheet)
     unfolding refreshWith measureCall
@@ -112,7 +121,7 @@ module _ (m : Machine) (s : Storage) (rates mask sheet : List ℕ) (u : Full s) 
             → After (cond x (C.openCall terms (m .volume) (now .state .cells) (m .marks) mask (now .sheet))
             (C.refreshCall terms (m .volume) (now .state .cells) (now .state .log) (now .state .last) (m .marks) mask (now .sheet)))
         go true e = by-opened now b (w .tells) terms mask After back onward
-        go false e = by-refreshed now b (w .tells) terms mask After back onward (w .shows e)
+        go false e = by-refreshed now b (w .tells) terms mask After back onward (w .shows e) (w .payable e)
 
   -- ---- any stand
 

@@ -19,6 +19,7 @@ use Rattle.interpreter.specs.declared.Machine.{Machine}
 use Rattle.scripts.specs.Page.{Page}
 use Rattle.scripts.proofs.Fronts.{Full, front-back}
 use Rattle.scripts.proofs.Lending.{held-all}
+use Rattle.scripts.proofs.Payable.{Payable}
 
 -- a stand of n sections, its book, and a sheet that shows it unless stand or card is new
 pub record Stands (m : Machine) (s : Storage) (t : Terms) (sheet : List ℕ) (b : Book) : Type 0 where
@@ -27,6 +28,7 @@ pub record Stands (m : Machine) (s : Storage) (t : Terms) (sheet : List ℕ) (b 
   pub few : n ≤ 4
   pub tells : Tells (joined (m .volume) (front n s)) b
   pub shows : m .stale ≡ false → Shows t (m .marks .sheet) (take (n * 3) sheet) b
+  pub payable : m .stale ≡ false → Payable t (m .marks .sheet) b
 
 unfoldable pub Standing : Machine → Storage → Terms → List ℕ → Option Book → Type 0
 Standing m s t sheet none = wellFormed (m .volume) ≡ false

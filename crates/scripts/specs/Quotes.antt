@@ -1,10 +1,13 @@
 -- The price lines of every script: what demand 3 says of lists of calls, for those of the trial program.
-use Prim.Native.Nat.{ℕ}
+use Prim.Native.Nat.{ℕ, _≤_, _<_}
 use mathlib.Core.Path.{_≡_}
+use mathlib.Core.Bool.{true}
 use mathlib.Core.List.{List, [], _∷_}
 use mathlib.Core.Option.{some}
 use lib.ListN.{length, replicate}
-use Rattle.stand.specs.Shape.{Ranged}
+use Rattle.stand.specs.Shape.{Ranged, sections}
+use Rattle.sheet.specs.Card.{limit}
+use Rattle.sheet.specs.Row.{priced}
 use Rattle.sheet.specs.declared.Row.{Row}
 use Rattle.ledger.specs.Book.{Book}
 use Rattle.ledger.specs.Claim.{Once, bookSums}
@@ -60,6 +63,9 @@ pub record Fair (p : Page) (generation : ℕ) (row : Row) : Type 0 where
   pub count-is : generation ≡ book .count
   pub sums-are : row ≡ bookSums (termsOn p) book
   pub faces-once : Once (termsOn p) book
+  -- what 12 asks: the cut is within its limit, and every visible face has a rate within its
+  pub cut-within : p .cut ≤ limit
+  pub rated : (i : ℕ) → i < sections (book .shape) → priced (p .rates) true (book .shape) (book .look) i ≡ true
 
 -- for every list of calls from the start: a refresh after it that prints a price line prints a fair one
 unfoldable pub Quotes : Type 0
