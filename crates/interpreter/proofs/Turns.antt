@@ -1,9 +1,6 @@
 -- From what a call of the stand or of the sheet comes to, to what the interpreter's call comes to.
-use mathlib.Core.Path.{_≡_, refl, sym, ap, _∙_}
-use mathlib.Core.Bool.{Bool}
-use mathlib.Core.List.{List, _++_}
-use Prim.Native.Nat.{ℕ, _*_}
-use lib.ListN.{drop, length}
+use mathlib.Core.Path.{_≡_, ap, _∙_}
+use Prim.Native.Nat.{ℕ}
 use Rattle.stand.specs.Edit.{setCall}
 use Rattle.stand.specs.Fill.{fillCall}
 use Rattle.stand.specs.Opening.{Opening, openCall, openingOf}
@@ -13,9 +10,8 @@ use Rattle.stand.specs.declared.Cell.{Cell}
 use Rattle.stand.specs.declared.volume.Extent.{Extent}
 use Rattle.stand.specs.declared.volume.Volume.{Volume}
 use Rattle.sheet.specs.Calls as C
-use Rattle.sheet.specs.declared.Marks.{Marks}
 use Rattle.interpreter.specs.Room.{chunksOf, lentOf, wantedOf}
-use Rattle.interpreter.specs.Run.{back, editedOf, fillStep, fillWith, front, held, lengthsIn, machineOf, moved, openStep, openWith, openedTurn, priced, pricedOf, pricedTurn, refreshStep, refreshWith, replyOf, setStep, setWith, turnOf}
+use Rattle.interpreter.specs.Run.{back, editedOf, fillStep, fillWith, front, held, lengthsIn, machineOf, moved, openStep, openWith, openedTurn, replyOf, setStep, setWith, turnOf}
 use Rattle.interpreter.specs.declared.Machine.{Machine}
 use Rattle.interpreter.specs.declared.Reply.{Reply}
 use Rattle.interpreter.specs.declared.Turn.{Turn}

@@ -1,9 +1,9 @@
 -- How much of the lists a call is lent: document 01, 'Trial program' (at most 4 sections, else 4).
 use Prim.Native.Nat.{ℕ, _*_, _≤_}
 use mathlib.Core.Bool.{Bool, cond, _&&_}
-use mathlib.Core.List.{List, _++_}
+use mathlib.Core.List.{List}
 use lib.Dec.{leb}
-use lib.ListN.{drop, length, take}
+use lib.ListN.{length}
 use Rattle.stand.specs.Opening.{headerCall}
 use Rattle.stand.specs.Read.{ofHeader}
 use Rattle.stand.specs.Refusal.{Answer, gives, refused}

@@ -1,12 +1,12 @@
 -- What a call comes to: document 01, 'Trial program'.
-use Prim.Native.Nat.{ℕ, zero, suc, _*_}
+use Prim.Native.Nat.{ℕ, _*_}
 use mathlib.Core.Bool.{Bool, true, false, cond, _&&_}
 use mathlib.Core.List.{List, _++_}
 use lib.Dec.{leb, ltb}
 use lib.ListN.{drop, length, set, take}
 use Rattle.stand.specs.Edit.{setCall}
 use Rattle.stand.specs.Fill.{fillCall}
-use Rattle.stand.specs.Opening.{Opening, openCall}
+use Rattle.stand.specs.Opening.{openCall}
 use Rattle.stand.specs.Refusal.{Answer, gives, refused}
 use Rattle.stand.specs.Storage as S
 use Rattle.stand.specs.Storage.{Storage, joined, storage, storageOf}

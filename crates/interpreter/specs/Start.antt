@@ -2,8 +2,6 @@
 use Prim.Native.Nat.{ℕ}
 use mathlib.Core.Bool.{true}
 use lib.IntN.{pos}
-use Rattle.stand.specs.declared.Cell.{Cell}
-use Rattle.stand.specs.declared.volume.Extent.{Extent}
 use Rattle.stand.specs.declared.volume.Volume.{Volume}
 use Rattle.interpreter.specs.declared.Machine.{Machine}
 
