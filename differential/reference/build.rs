@@ -33,14 +33,11 @@ fn main() {
 
 /// The folder of volume.rs and mesh.rs.
 fn source() -> PathBuf {
-    let here = PathBuf::from(env::var_os("CARGO_MANIFEST_DIR").expect("CARGO_MANIFEST_DIR"));
-    let root = match env::var_os("RENEW_SRC") {
-        Some(path) => PathBuf::from(path),
-        None => here.join("../../../shared/docs/src"),
-    };
-    let src = root.join("crates/volume/src");
+    let root = env::var_os("RENEW_SRC")
+        .unwrap_or_else(|| panic!("set RENEW_SRC to a checkout of renew-engine/renew"));
+    let src = PathBuf::from(root).join("crates/volume/src");
     src.canonicalize()
-        .unwrap_or_else(|_| panic!("no Rust source at {}: set RENEW_SRC", src.display()))
+        .unwrap_or_else(|_| panic!("no Rust source at {}: see RENEW_SRC", src.display()))
 }
 
 fn read(path: &Path) -> String {
