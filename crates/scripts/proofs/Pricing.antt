@@ -28,11 +28,8 @@ use Rattle.scripts.specs.Quotes.{Fair}
 use Rattle.scripts.proofs.Fronts.{Full, length-back}
 use Rattle.scripts.proofs.Lending.{held-none}
 use Rattle.scripts.proofs.Refreshing.{Anew, by-opened, by-refreshed}
+use Rattle.scripts.proofs.Replies.{refusal}
 use Rattle.scripts.proofs.Standing.{Standing, Stands, held-is}
-
--- a price line is no refusal
-no-price : {A : Type 0} {n generation : ℕ} {row : Row} → R.Refused n ≡ R.Price generation row → A
-no-price e = let z : _≡_ {A = ℕ} 0 1 = cc in absurd (omega arith)
 
 -- a refresh keeps the stand's book, and its price line is fair
 pub record Quoted (m : Machine) (s : Storage) (rates : List ℕ) (b : Option Book) (p : Priced) : Type 0 where
@@ -53,7 +50,7 @@ module _ (m : Machine) (s : Storage) (rates mask sheet : List ℕ) (u : Full s) 
       → Line b (priced n m sheet (C.outcomeOf (C.refused j) (m .marks) mask (take (n * 3) sheet)))
   turned n j b w =
       subst (λ (x : List ℕ). Line b (pricedOf (turnOf m (R.Refused j)) mask x)) (sym (take-append-drop (n * 3) sheet))
-      (record { rows = q; cut-is = refl; standing = w; fair = λ generation row e. no-price e })
+      (record { rows = q; cut-is = refl; standing = w; fair = λ generation row e. absurd (refusal j generation row e) })
 
   -- ---- a stand with its book
 

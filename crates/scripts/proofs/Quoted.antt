@@ -59,7 +59,7 @@ module _ (m : Machine) (l : Lists) (p : Page) (h : Holds m l p) where
   line : Quoted m (l .storage) (l .rates) (p .book) (refreshStep m (l .storage) (l .rates) (l .mask) (l .sheet))
   line = quoted m (l .storage) (l .rates) (l .mask) (l .sheet) (h .full) (h .rows) (p .book) (h .standing)
 
-  call-holds : (c : Call) → Typed c → Holds (runStep m l c .turn .machine) (runStep m l c .lists) (write p c)
+  pub call-holds : (c : Call) → Typed c → Holds (runStep m l c .turn .machine) (runStep m l c .lists) (write p c)
   unfolding runStep write Typed
   call-holds (K.Open o size) r = edit-holds _ _ (open-kept m (l .storage) (termsIn m (l .rates)) (l .sheet) (h .full) o size _ (h .rows) r (p .book) (h .standing))
   call-holds (K.Set c v) _ = edit-holds _ _ (set-kept m (l .storage) (termsIn m (l .rates)) (l .sheet) (h .full) _ (h .rows) c v (p .book) (h .standing))
@@ -69,7 +69,7 @@ module _ (m : Machine) (l : Lists) (p : Page) (h : Holds m l p) where
   call-holds (K.Cut c) _ = cut-holds m l p h c
 
   -- a price line is that of the page
-  line-fair : (generation : ℕ) (row : Row) → runStep m l K.Refresh .turn .reply ≡ R.Price generation row → Fair p generation row
+  pub line-fair : (generation : ℕ) (row : Row) → runStep m l K.Refresh .turn .reply ≡ R.Price generation row → Fair p generation row
   unfolding runStep
   line-fair generation row e =
       subst (λ (x : Page). Fair x generation row) (λ i. record { book = p .book; rates = h .rates-are i; cut = h .cut-is i }) (line .fair generation row e)
@@ -82,7 +82,7 @@ run-holds h p [] t w = w
 run-holds h p (c ∷ cs) t w =
     run-holds (heldAfter (runStep (h .machine) (h .lists) c)) (write p c) cs (t .1) (call-holds (h .machine) (h .lists) p w c (t .0))
 
-start-holds : (l : Lists) → Lent l → Holds startMachine l blank
+pub start-holds : (l : Lists) → Lent l → Holds startMachine l blank
 unfolding blank Standing wellFormed good axisGood
 start-holds l w =
     record {

@@ -1,3 +1,4 @@
 -- The definitions of `scripts`.
+pub mod Bytes
 pub mod Page
 pub mod Quotes
