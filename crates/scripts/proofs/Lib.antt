@@ -7,6 +7,7 @@ pub mod Openings
 pub mod Payable
 pub mod Prefix
 pub mod Pricing
+pub mod Printing
 pub mod Quoted
 pub mod Ranges
 pub mod Refreshing

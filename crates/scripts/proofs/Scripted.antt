@@ -17,6 +17,7 @@ use Rattle.scripts.specs.Bytes.{ByteQuotes, Bytes, Point, after, begin, 
 use Rattle.scripts.specs.Page.{Page, write}
 use Rattle.scripts.specs.Quotes.{Fair, Lent}
 use Rattle.scripts.proofs.Prefix.{own-bytes}
+use Rattle.scripts.proofs.Printing.{next-line}
 use Rattle.scripts.proofs.Quoted.{call-holds, line-fair, start-holds}
 use Rattle.scripts.proofs.Ranges.{TypedIn, decode-typed, drop-bytes}
 use Rattle.scripts.proofs.Replies.{broken, fill-reply, open-reply, quiet, rate-reply, set-reply}
@@ -75,4 +76,5 @@ byte-quotes =
     record {
       fair = λ l b n generation row w v e. price-fair (after n (begin l b)) (after-sound n (begin l b) (begin-sound l b w v)) generation row e;
       front = own-bytes;
+      next = next-line;
     }
