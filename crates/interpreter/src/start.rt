@@ -33,7 +33,7 @@ pub fn start() -> Machine
     }
 }
 
-// The rates by finish, none set. Rules out a rate that a refresh would take.
+// The rates by finish, none set. Rules out a rate that a refresh would take, and a finish up to 63 with no place in the list.
 pub fn no_rates() -> [u32; 64]
     ensures { λ r. ⌜ r ≡ replicate 64 unset ⌝ }
 {

@@ -5,7 +5,6 @@ use Prim.Native.Nat.{ℕ}
 use lib.Dec.{eqb}
 use lib.IntN.{ℤ}
 use Rattle.stand.specs.declared.Cell.{Cell}
-use Rattle.stand.specs.declared.volume.Extent.{Extent}
 use Rattle.quote.specs.declared.fault.Fault.{Fault}
 use Rattle.quote.specs.declared.fault.Fault.the-variants.{MissingNumber}
 use Rattle.quote.specs.declared.fields.Corner as K
@@ -46,6 +45,3 @@ cornerAt line at =
     withCoordinate (coordinateAt line second) K.the-variants.Bad (λ y third.
     withCoordinate (coordinateAt line third) K.the-variants.Bad (λ z next.
     K.the-variants.Is (record { x = x; y = y; z = z }) next)))
-
-abbrev pub extentOf : Cell → Extent
-extentOf c = record { x = c .x; y = c .y; z = c .z }

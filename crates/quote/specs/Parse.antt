@@ -8,7 +8,8 @@ use Rattle.quote.specs.declared.parse.Parsed.{Parsed}
 use Rattle.quote.specs.declared.parse.Parsed.the-variants.{Nothing, Is, Bad}
 use Rattle.quote.specs.declared.verb.Verb.{Verb}
 use Rattle.quote.specs.declared.verb.Verb.the-variants as verb
-use Rattle.quote.specs.Fields.{byWord, amountAt, cornerAt, withAmount, withCorner, extentOf}
+use Rattle.quote.specs.Fields.{byWord, amountAt, cornerAt, withAmount, withCorner}
+use Rattle.interpreter.specs.Decode.{sizeOf}
 use Rattle.quote.specs.Verb.{verbOf}
 use Rattle.quote.specs.Words.{wordAt}
 
@@ -21,7 +22,7 @@ module _ (line : List ℕ) (at : ℕ) where
   openOf =
       withCorner (cornerAt line at) Bad (λ origin second.
       withCorner (cornerAt line second) Bad (λ size next.
-      closed line next (call.Open origin (extentOf size))))
+      closed line next (call.Open origin (sizeOf size))))
 
   unfoldable pub setOf : Parsed
   setOf =

@@ -1,7 +1,8 @@
 // The fields of a call: each is the line's next word.
 ghost use mathlib.Core.Path.{_≡_};
 ghost use Prim.Native.Nat.{_<_};
-ghost use Rattle.quote.specs.Fields.{amountAt, coordinateAt, cornerAt, extentOf};
+ghost use Rattle.quote.specs.Fields.{amountAt, coordinateAt, cornerAt};
+ghost use Rattle.interpreter.specs.Decode.{sizeOf};
 use crate::fault::Fault;
 use crate::number::Amount;
 use crate::number::Coordinate;
@@ -59,7 +60,7 @@ pub(crate) fn corner_at(line: &[u8], at: usize) -> Corner
 }
 
 pub(crate) fn extent(c: Cell) -> Extent
-    ensures { λ r. ⌜ r ≡ extentOf c ⌝ }
+    ensures { λ r. ⌜ r ≡ sizeOf c ⌝ }
 {
     Extent {
         x: c.x,
