@@ -2,9 +2,7 @@
 ghost use Prim.Native.Nat.{_<_};
 use crate::numbers::Numbers;
 use arith::level::from_level;
-use mesh::Beyond;
 use stand::Cell;
-use stand::Voxel;
 use stand::volume::Extent;
 
 pub(crate) fn arg(a: Numbers, i: usize) -> u64
@@ -37,10 +35,12 @@ pub(crate) fn cell(a: Numbers, i: usize) -> Cell
 pub(crate) fn extent(a: Numbers, i: usize) -> Extent
     requires { ⌜ i < 62 ⌝ }
 {
-    let x = coordinate(a, i);
-    let y = coordinate(a, i + 1);
-    let z = coordinate(a, i + 2);
-    Extent { x, y, z }
+    let c = cell(a, i);
+    Extent {
+        x: c.x,
+        y: c.y,
+        z: c.z,
+    }
 }
 
 pub(crate) fn short(a: Numbers, i: usize) -> u16
@@ -49,23 +49,18 @@ pub(crate) fn short(a: Numbers, i: usize) -> u16
     (arg(a, i) % 65536) as u16
 }
 
-pub(crate) fn finish(a: Numbers, i: usize) -> Voxel
-    requires { ⌜ i < 64 ⌝ }
-{
-    Voxel(short(a, i))
-}
-
 pub(crate) fn cents(a: Numbers, i: usize) -> u32
     requires { ⌜ i < 64 ⌝ }
 {
     (arg(a, i) % 4294967296) as u32
 }
 
-pub(crate) fn rule(a: Numbers, i: usize) -> Beyond
+// The outside rule as the calls take it: 1 for empty, 0 for solid.
+pub(crate) fn rule(a: Numbers, i: usize) -> u32
     requires { ⌜ i < 64 ⌝ }
 {
     if arg(a, i) == 0 {
-        return Beyond::Empty;
+        return 1;
     }
-    Beyond::Solid
+    0
 }

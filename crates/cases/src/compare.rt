@@ -1,9 +1,9 @@
 // An answer against the one that a line gives.
-use crate::names::FOLD;
-use crate::names::NONE;
 use crate::numbers::Numbers;
 use crate::numbers::and;
 use crate::numbers::one;
+use crate::read::FOLD;
+use crate::read::NONE;
 use crate::show::numbers;
 use crate::show::text;
 use crate::show::which;

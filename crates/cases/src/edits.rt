@@ -1,58 +1,35 @@
 // Opening, set and fill.
-use crate::answers::change;
-use crate::answers::number;
-use crate::answers::refused;
-use crate::answers::size;
 use crate::args::cell;
 use crate::args::extent;
-use crate::args::finish;
+use crate::args::short;
 use crate::lend::lend16;
 use crate::lend::lend32;
 use crate::lend::lend64;
 use crate::numbers::Numbers;
-use crate::stage::Done;
+use crate::numbers::and_extent;
+use crate::numbers::none;
+use crate::numbers::one;
+use crate::replies::said;
 use crate::stage::Stage;
 use crate::stage::Storage;
+use crate::turn::Done;
+use exports::edit::Edited;
+use exports::edit::Opened;
+use exports::edit::stand_fill;
+use exports::edit::stand_open;
+use exports::edit::stand_set;
 use stand::volume::Volume;
-use stand::volume::answer::FillDone;
-use stand::volume::answer::SetDone;
-use stand::volume::answer::VolumeAnswer;
-
-// The header after an edit, and the edit's answer.
-struct Edited {
-    volume: Volume,
-    answer: Numbers,
-}
 
 // A refused opening keeps the stand.
-fn opened(old: Volume, a: VolumeAnswer) -> Edited {
-    match a {
-        VolumeAnswer::Is(volume) => Edited {
-            volume,
-            answer: size(volume.size()),
-        },
-        VolumeAnswer::Refused(n) => Edited {
-            volume: old,
-            answer: refused(n),
-        },
+fn opened(old: Volume, r: Opened) -> Edited {
+    let mut volume = r.volume;
+    if r.code != 0 {
+        volume = old;
     }
-}
-
-fn was_set(done: SetDone) -> Edited {
-    let volume = done.volume;
-    let answer = done.answer;
     Edited {
+        code: r.code,
+        changed: 0,
         volume,
-        answer: change(answer),
-    }
-}
-
-fn was_filled(done: FillDone) -> Edited {
-    let volume = done.volume;
-    let answer = done.answer;
-    Edited {
-        volume,
-        answer: number(answer),
     }
 }
 
@@ -67,30 +44,34 @@ fn edit_lent(
     last: &mut [u64],
 ) -> Edited {
     let at = cell(a, 0);
-    match verb {
-        200 => opened(
-            v,
-            Volume::new(at, extent(a, 3), cells, hashes, versions, log, last),
-        ),
-        201 => was_set(v.set(cells, hashes, versions, log, last, at, finish(a, 3))),
-        _ => was_filled(v.fill(
-            cells,
-            hashes,
-            versions,
-            log,
-            last,
-            at,
-            cell(a, 3),
-            finish(a, 6),
-        )),
+    if verb == 201 {
+        let finish = short(a, 3);
+        return stand_set(v, cells, hashes, versions, log, last, at, finish);
     }
+    if verb == 202 {
+        let to = cell(a, 3);
+        let finish = short(a, 6);
+        return stand_fill(v, cells, hashes, versions, log, last, at, to, finish);
+    }
+    let size = extent(a, 3);
+    opened(v, stand_open(at, size, cells, hashes, versions, log, last))
+}
+
+// The size of a stand just opened; else how many cells changed.
+fn edited(verb: u64, e: Edited) -> Numbers {
+    if verb == 200 {
+        let v = e.volume;
+        let size = v.size;
+        return said(e.code, and_extent(none(), size));
+    }
+    said(e.code, one(e.changed))
 }
 
 pub(crate) fn edit(s: Stage, verb: u64, a: Numbers) -> Done {
     let old = s.storage;
     let lent = s.lent;
     let mut cells = old.cells;
-    let part = lend16(&mut cells, lent.cells);
+    let some_cells = lend16(&mut cells, lent.cells);
     let mut hashes = old.hashes;
     let some_hashes = lend64(&mut hashes, lent.hashes);
     let mut versions = old.versions;
@@ -104,14 +85,13 @@ pub(crate) fn edit(s: Stage, verb: u64, a: Numbers) -> Done {
         v,
         verb,
         a,
-        part,
+        some_cells,
         some_hashes,
         some_versions,
         some_log,
         some_last,
     );
     let volume = e.volume;
-    let answer = e.answer;
     let storage = Storage {
         cells,
         hashes,
@@ -122,5 +102,8 @@ pub(crate) fn edit(s: Stage, verb: u64, a: Numbers) -> Done {
     let mut stage = s;
     stage.volume = volume;
     stage.storage = storage;
-    Done { stage, answer }
+    Done {
+        stage,
+        answer: edited(verb, e),
+    }
 }

@@ -1,58 +1,51 @@
-// The first n entries of a list, all of them where it has fewer. Lists of one type are as long as the longest of them, so that one function serves all.
+// The first n entries of a list, all of them where it has fewer. Lists of one type are as long as the longest of them.
 
-fn part16(s: &[u16], n: usize) -> &[u16] {
-    if s.len() < n {
-        return s;
+pub(crate) fn some_bytes(s: &[u8; 1001], n: usize) -> &[u8] {
+    let t = &s[..];
+    if t.len() < n {
+        return t;
     }
-    &s[..n]
-}
-
-fn part32(s: &[u32], n: usize) -> &[u32] {
-    if s.len() < n {
-        return s;
-    }
-    &s[..n]
-}
-
-fn part64(s: &[u64], n: usize) -> &[u64] {
-    if s.len() < n {
-        return s;
-    }
-    &s[..n]
-}
-
-fn part_list(s: &[i32], n: usize) -> &[i32] {
-    if s.len() < n {
-        return s;
-    }
-    &s[..n]
-}
-
-pub(crate) fn part8(s: &[u8], n: usize) -> &[u8] {
-    if s.len() < n {
-        return s;
-    }
-    &s[..n]
+    &t[..n]
 }
 
 pub(crate) fn some_cells(s: &[u16; 16384], n: usize) -> &[u16] {
-    part16(s, n)
+    let t = &s[..];
+    if t.len() < n {
+        return t;
+    }
+    &t[..n]
 }
 
 pub(crate) fn some_slots(s: &[u16; 1024], n: usize) -> &[u16] {
-    part16(s, n)
+    let t = &s[..];
+    if t.len() < n {
+        return t;
+    }
+    &t[..n]
 }
 
 pub(crate) fn some32(s: &[u32; 64], n: usize) -> &[u32] {
-    part32(s, n)
+    let t = &s[..];
+    if t.len() < n {
+        return t;
+    }
+    &t[..n]
 }
 
 pub(crate) fn some64(s: &[u64; 12], n: usize) -> &[u64] {
-    part64(s, n)
+    let t = &s[..];
+    if t.len() < n {
+        return t;
+    }
+    &t[..n]
 }
 
 pub(crate) fn some_numbers(s: &[i32; 400], n: usize) -> &[i32] {
-    part_list(s, n)
+    let t = &s[..];
+    if t.len() < n {
+        return t;
+    }
+    &t[..n]
 }
 
 pub(crate) fn lend16(s: &mut [u16], n: usize) -> &mut [u16] {

@@ -1,5 +1,4 @@
 // The sheet: opening, refresh and totals.
-use crate::answers::refused;
 use crate::args::rule;
 use crate::lend::lend16;
 use crate::lend::lend64;
@@ -8,19 +7,16 @@ use crate::lend::some32;
 use crate::lend::some64;
 use crate::numbers::Numbers;
 use crate::numbers::and;
+use crate::numbers::and_u64;
 use crate::numbers::none;
 use crate::numbers::one;
-use crate::stage::Done;
+use crate::replies::said;
 use crate::stage::Stage;
-use crate::walks::and_u64;
-use mesh::Beyond;
-use sheet::Marks;
-use sheet::SheetAnswer;
-use sheet::SheetDone;
-use sheet::TotalsAnswer;
-use sheet::open::open;
-use sheet::refresh::refresh;
-use sheet::totals::totals;
+use crate::turn::Done;
+use exports::prices::Marked;
+use exports::prices::stand_open_sheet;
+use exports::prices::stand_refresh;
+use exports::prices::stand_totals;
 use stand::volume::Volume;
 
 fn measure_lent(
@@ -32,23 +28,14 @@ fn measure_lent(
     last: &[u64],
     rates: &[u32],
     cut: u32,
-    beyond: Beyond,
+    rule: u32,
     mask: &mut [u16],
     sheet: &mut [u64],
-) -> SheetDone {
-    let marks = Marks { sheet: mark };
+) -> Marked {
     if verb == 700 {
-        return open(v, marks, cells, rates, cut, beyond, mask, sheet);
+        return stand_open_sheet(v, mark, cells, rates, cut, rule, mask, sheet);
     }
-    refresh(v, marks, cells, log, last, rates, cut, beyond, mask, sheet)
-}
-
-// The mark after an accepted call.
-fn measured(a: SheetAnswer, mark: u64) -> Numbers {
-    match a {
-        SheetAnswer::Done => one(mark),
-        SheetAnswer::Refused(n) => refused(n),
-    }
+    stand_refresh(v, mark, cells, log, last, rates, cut, rule, mask, sheet)
 }
 
 // The sheet opened or refreshed.
@@ -64,7 +51,7 @@ pub(crate) fn measure(s: Stage, verb: u64, a: Numbers) -> Done {
     let slots = lend16(&mut mask, lent.mask);
     let mut sheet = s.sheet;
     let rows = lend64(&mut sheet, lent.sheet);
-    let done = measure_lent(
+    let r = measure_lent(
         v,
         s.mark,
         verb,
@@ -77,22 +64,13 @@ pub(crate) fn measure(s: Stage, verb: u64, a: Numbers) -> Done {
         slots,
         rows,
     );
-    let answer = done.answer;
-    let marks = done.marks;
     let mut stage = s;
     stage.mask = mask;
     stage.sheet = sheet;
-    stage.mark = marks.sheet;
+    stage.mark = r.mark;
     Done {
         stage,
-        answer: measured(answer, marks.sheet),
-    }
-}
-
-fn totalled(a: TotalsAnswer) -> Numbers {
-    match a {
-        TotalsAnswer::Is(r) => and(and(one(r.panels), r.faces), r.cents),
-        TotalsAnswer::Refused(n) => refused(n),
+        answer: said(r.code, one(r.mark)),
     }
 }
 
@@ -101,7 +79,8 @@ pub(crate) fn read_sheet(s: Stage, verb: u64) -> Numbers {
     let lent = s.lent;
     let sheet = s.sheet;
     if verb == 710 {
-        return totalled(totals(v, some64(&sheet, lent.sheet)));
+        let t = stand_totals(v, some64(&sheet, lent.sheet));
+        return said(t.code, and(and(one(t.panels), t.faces), t.cents));
     }
     if verb == 711 {
         return and_u64(none(), some64(&sheet, lent.sheet));

@@ -1,6 +1,7 @@
 // Lists of numbers: the arguments of a call, its answer, and the answer that it must have.
 use arith::level::level;
 use stand::Cell;
+use stand::volume::Extent;
 use stand::volume::hash::fold;
 
 // The first 64 numbers, how many there are, and the fold of all.
@@ -53,4 +54,57 @@ pub(crate) fn and_cell(n: Numbers, c: Cell) -> Numbers {
     let x = and(n, signed(c.x));
     let y = and(x, signed(c.y));
     and(y, signed(c.z))
+}
+
+pub(crate) fn and_extent(n: Numbers, e: Extent) -> Numbers {
+    and_cell(n, Cell::new(e.x, e.y, e.z))
+}
+
+fn wide(x: u16) -> u64 {
+    x as u64
+}
+
+fn wider(x: u32) -> u64 {
+    x as u64
+}
+
+// The entries of a list.
+pub(crate) fn and_u16(n: Numbers, list: &[u16]) -> Numbers {
+    let mut all = n;
+    let mut i = 0;
+    while i < list.len() {
+        all = and(all, wide(list[i]));
+        i += 1;
+    }
+    all
+}
+
+pub(crate) fn and_u32(n: Numbers, list: &[u32]) -> Numbers {
+    let mut all = n;
+    let mut i = 0;
+    while i < list.len() {
+        all = and(all, wider(list[i]));
+        i += 1;
+    }
+    all
+}
+
+pub(crate) fn and_u64(n: Numbers, list: &[u64]) -> Numbers {
+    let mut all = n;
+    let mut i = 0;
+    while i < list.len() {
+        all = and(all, list[i]);
+        i += 1;
+    }
+    all
+}
+
+pub(crate) fn and_i32(n: Numbers, list: &[i32]) -> Numbers {
+    let mut all = n;
+    let mut i = 0;
+    while i < list.len() {
+        all = and(all, signed(list[i]));
+        i += 1;
+    }
+    all
 }

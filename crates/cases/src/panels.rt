@@ -1,5 +1,5 @@
 // Panels, slices, and what mask and list hold.
-use crate::answers::refused;
+use crate::args::cents;
 use crate::args::count;
 use crate::args::rule;
 use crate::lend::lend_list;
@@ -7,37 +7,32 @@ use crate::lend::lend16;
 use crate::lend::some_cells;
 use crate::lend::some_numbers;
 use crate::lend::some_slots;
-use crate::names::REFUSED;
 use crate::numbers::Numbers;
 use crate::numbers::and;
 use crate::numbers::and_cell;
+use crate::numbers::and_extent;
+use crate::numbers::and_i32;
+use crate::numbers::and_u16;
 use crate::numbers::none;
-use crate::numbers::one;
-use crate::stage::Done;
-use crate::stage::Plane;
+use crate::replies::number;
+use crate::replies::said;
 use crate::stage::Stage;
-use crate::stage::quiet;
-use crate::walks::and_i32;
-use crate::walks::and_u16;
-use mesh::Quad;
-use mesh::faces::FacesAnswer;
-use mesh::faces::chunk_faces;
-use mesh::faces::faces;
-use mesh::lay::SliceAnswer;
-use mesh::lay::chunk_slice;
-use mesh::slice::Claimed;
-use mesh::slice::Slice;
-use stand::Cell;
-use stand::Face;
-use stand::FaceAnswer;
+use crate::turn::Done;
+use exports::panels::stand_chunk_faces;
+use exports::panels::stand_faces;
+use exports::reply::Number;
+use exports::slices::PanelGiven;
+use exports::slices::Sliced;
+use exports::slices::stand_chunk_slice;
+use exports::slices::stand_claim;
 use stand::volume::Volume;
 
-fn meshed(a: FacesAnswer) -> Numbers {
-    match a {
-        FacesAnswer::Is(n) => one(n),
-        FacesAnswer::TooShort(n) => and(and(one(REFUSED), 11), n),
-        FacesAnswer::Refused(n) => refused(n),
+// 11 adds the panels needed.
+fn meshed(r: Number) -> Numbers {
+    if r.code == 11 {
+        return and(number(r), r.value);
     }
+    number(r)
 }
 
 fn mesh_lent(
@@ -47,11 +42,11 @@ fn mesh_lent(
     a: Numbers,
     mask: &mut [u16],
     list: &mut [i32],
-) -> Numbers {
+) -> Number {
     if verb == 600 {
-        return meshed(chunk_faces(cells, v, count(a, 0), rule(a, 1), mask, list));
+        return stand_chunk_faces(v, cells, count(a, 0), rule(a, 1), mask, list);
     }
-    meshed(faces(cells, v, rule(a, 0), mask, list))
+    stand_faces(v, cells, rule(a, 0), mask, list)
 }
 
 // The panels of a section or of the whole stand.
@@ -64,109 +59,72 @@ pub(crate) fn mesh(s: Stage, verb: u64, a: Numbers) -> Done {
     let slots = lend16(&mut mask, lent.mask);
     let mut list = s.list;
     let numbers = lend_list(&mut list, lent.list);
-    let answer = mesh_lent(v, some_cells(&cells, lent.cells), verb, a, slots, numbers);
+    let r = mesh_lent(v, some_cells(&cells, lent.cells), verb, a, slots, numbers);
     let mut stage = s;
     stage.mask = mask;
     stage.list = list;
-    Done { stage, answer }
-}
-
-// Where a slice lies; a refused one keeps the old.
-fn plane_of(old: Plane, a: SliceAnswer) -> Plane {
-    match a {
-        SliceAnswer::Is(s) => {
-            let cell = s.cell;
-            let face = s.face;
-            Plane {
-                cell,
-                side: face.number(),
-                width: s.width,
-                height: s.height,
-            }
-        }
-        SliceAnswer::Refused(_) => old,
+    Done {
+        stage,
+        answer: meshed(r),
     }
 }
 
-fn laid(a: SliceAnswer) -> Numbers {
-    match a {
-        SliceAnswer::Is(s) => {
-            let cell = s.cell;
-            and(and(and_cell(none(), cell), s.width), s.height)
-        }
-        SliceAnswer::Refused(n) => refused(n),
-    }
+// The lowest cell of a slice, and its slots along first and second.
+fn laid(r: Sliced) -> Numbers {
+    let s = r.slice;
+    let c = s.cell;
+    said(r.code, and(and(and_cell(none(), c), s.width), s.height))
 }
 
 // A slice of a section laid into the mask.
 pub(crate) fn slice(s: Stage, a: Numbers) -> Done {
-    let FaceAnswer::Is(face) = Face::at(count(a, 1)) else {
-        return quiet(s);
-    };
     let v = s.volume;
     let lent = s.lent;
     let storage = s.storage;
     let cells = storage.cells;
     let mut mask = s.mask;
     let slots = lend16(&mut mask, lent.mask);
-    let answer = chunk_slice(
-        some_cells(&cells, lent.cells),
+    let r = stand_chunk_slice(
         v,
+        some_cells(&cells, lent.cells),
         count(a, 0),
-        face,
+        cents(a, 1),
         count(a, 2),
         rule(a, 3),
         slots,
     );
-    let old = s.plane;
-    let plane = plane_of(old, answer);
+    let slice = r.slice;
     let mut stage = s;
     stage.mask = mask;
-    stage.plane = plane;
+    stage.slice = slice;
     Done {
         stage,
-        answer: laid(answer),
+        answer: laid(r),
     }
 }
 
-// The eight numbers of a panel.
-fn panel_numbers(q: Quad) -> Numbers {
-    let cell = q.cell;
-    let face = q.face;
-    let finish = q.voxel;
-    let e = q.extent;
-    let side = and(and_cell(none(), cell), face.number() as u64);
-    and_cell(and(side, finish.0 as u64), Cell::new(e.x, e.y, e.z))
-}
-
-fn claimed(c: Claimed) -> Numbers {
-    match c {
-        Claimed::Quad(q, next) => and(panel_numbers(q), next as u64),
-        Claimed::None => none(),
+// The eight numbers of a panel, and the next slot.
+fn claimed(p: PanelGiven) -> Numbers {
+    if p.given == 0 {
+        return none();
     }
+    let c = p.cell;
+    let e = p.extent;
+    let finish = and(and(and_cell(none(), c), p.side as u64), p.finish as u64);
+    and(and_extent(finish, e), p.next)
 }
 
 // The next panel of the slice laid last.
 pub(crate) fn claim(s: Stage, a: Numbers) -> Done {
-    let p = s.plane;
-    let FaceAnswer::Is(face) = Face::at(p.side) else {
-        return quiet(s);
-    };
-    let cell = p.cell;
-    let plane = Slice {
-        cell,
-        face,
-        width: p.width,
-        height: p.height,
-    };
+    let slice = s.slice;
     let lent = s.lent;
     let mut mask = s.mask;
-    let answer = plane.claim(lend16(&mut mask, lent.mask), count(a, 0));
+    let p = stand_claim(slice, lend16(&mut mask, lent.mask), count(a, 0));
     let mut stage = s;
     stage.mask = mask;
     Done {
         stage,
-        answer: claimed(answer),
+        answer: claimed(p),
     }
 }
 
@@ -183,13 +141,13 @@ fn panel_at(list: &[i32], i: usize) -> Numbers {
 // What mask and list hold.
 pub(crate) fn read_lent(s: Stage, verb: u64, a: Numbers) -> Numbers {
     let lent = s.lent;
-    let mask = s.mask;
+    if verb == 611 {
+        let mask = s.mask;
+        return and_u16(none(), some_slots(&mask, lent.mask));
+    }
     let list = s.list;
     if verb == 610 {
         return panel_at(some_numbers(&list, lent.list), count(a, 0));
-    }
-    if verb == 611 {
-        return and_u16(none(), some_slots(&mask, lent.mask));
     }
     and_i32(none(), some_numbers(&list, lent.list))
 }

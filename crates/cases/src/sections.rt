@@ -1,7 +1,4 @@
 // Calls that read the header, or the lists that have an entry for each section.
-use crate::answers::number;
-use crate::answers::place;
-use crate::answers::size;
 use crate::args::arg;
 use crate::args::count;
 use crate::args::extent;
@@ -9,63 +6,83 @@ use crate::lend::some32;
 use crate::lend::some64;
 use crate::numbers::Numbers;
 use crate::numbers::and;
+use crate::numbers::and_u32;
+use crate::numbers::and_u64;
 use crate::numbers::none;
 use crate::numbers::one;
+use crate::replies::number;
+use crate::replies::place;
+use crate::replies::said;
+use crate::replies::span;
 use crate::stage::Lent;
 use crate::stage::Storage;
-use crate::walks::and_u32;
-use crate::walks::and_u64;
-use crate::walks::changed;
-use mesh::Quad;
-use mesh::faces::chunk_slots;
-use stand::Cell;
-use stand::Face;
-use stand::Voxel;
+use exports::panels::stand_chunk_slots;
+use exports::read::stand_chunk_count;
+use exports::read::stand_chunk_hash;
+use exports::read::stand_chunk_origin;
+use exports::read::stand_chunk_version;
+use exports::read::stand_chunks;
+use exports::read::stand_digest;
+use exports::read::stand_generation;
+use exports::read::stand_max;
+use exports::read::stand_merged;
+use exports::read::stand_origin;
+use exports::read::stand_size;
+use exports::read::stand_solid_count;
+use exports::walk::stand_changed_since;
+use exports::walk::stand_changed_step;
 use stand::volume::Volume;
-use stand::volume::answer::NumberAnswer;
 use stand::volume::hash::splitmix64;
-
-// The faces of a panel with given extents.
-fn merged(a: Numbers) -> Numbers {
-    let q = Quad {
-        cell: Cell::new(0, 0, 0),
-        face: Face::East,
-        voxel: Voxel(1),
-        extent: extent(a, 0),
-    };
-    number(q.merged())
-}
 
 pub(crate) fn read_header(v: Volume, verb: u64, a: Numbers) -> Numbers {
     match verb {
-        400 => place(v.origin()),
-        401 => place(v.max()),
-        402 => size(v.size()),
-        403 => size(v.chunks()),
-        404 => number(v.chunk_count()),
-        405 => number(v.solid_count()),
-        406 => number(v.generation()),
-        407 => place(v.chunk_origin(count(a, 0))),
-        408 => number(chunk_slots(v, count(a, 0))),
-        409 => merged(a),
+        400 => place(stand_origin(v)),
+        401 => place(stand_max(v)),
+        402 => span(stand_size(v)),
+        403 => span(stand_chunks(v)),
+        404 => number(stand_chunk_count(v)),
+        405 => number(stand_solid_count(v)),
+        406 => number(stand_generation(v)),
+        407 => place(stand_chunk_origin(v, count(a, 0))),
+        408 => number(stand_chunk_slots(v, count(a, 0))),
+        409 => number(stand_merged(extent(a, 0))),
         _ => one(splitmix64(arg(a, 0))),
     }
 }
 
-// Generation, solid and digest.
-fn stand_now(v: Volume, digest: NumberAnswer) -> Numbers {
-    match digest {
-        NumberAnswer::Is(n) => and(and(one(v.generation), v.solid), n),
-        NumberAnswer::Refused(_) => number(digest),
+fn read_hashes(v: Volume, hashes: &[u64], verb: u64, a: Numbers) -> Numbers {
+    if verb == 502 {
+        return number(stand_chunk_hash(v, hashes, count(a, 0)));
     }
+    let digest = stand_digest(v, hashes);
+    if verb == 500 {
+        return number(digest);
+    }
+    said(
+        digest.code,
+        and(and(one(v.generation), v.solid), digest.value),
+    )
 }
 
-fn read_hashes(v: Volume, hashes: &[u64], verb: u64, a: Numbers) -> Numbers {
-    match verb {
-        500 => number(v.digest(hashes)),
-        501 => stand_now(v, v.digest(hashes)),
-        _ => number(v.chunk_hash(hashes, count(a, 0))),
+// The sections changed since a mark; a stand of four sections gives at most four.
+fn changed(v: Volume, log: &[u32], last: &[u64], mark: u64) -> Numbers {
+    let since = stand_changed_since(v, log, last, mark);
+    if since.code != 0 {
+        return number(since);
     }
+    let mut given = none();
+    let mut next = since.value;
+    let mut turns: u64 = 0;
+    while turns < 5 {
+        let g = stand_changed_step(v, log, last, next);
+        if g.given == 0 {
+            return said(g.code, given);
+        }
+        given = and(given, g.chunk);
+        next = g.next;
+        turns += 1;
+    }
+    given
 }
 
 fn read_changes(
@@ -77,7 +94,7 @@ fn read_changes(
     a: Numbers,
 ) -> Numbers {
     match verb {
-        503 => number(v.chunk_version(versions, count(a, 0))),
+        503 => number(stand_chunk_version(v, versions, count(a, 0))),
         504 => changed(v, log, last, arg(a, 0)),
         _ => and_u64(and_u32(and_u32(none(), versions), log), last),
     }
@@ -90,13 +107,13 @@ pub(crate) fn read_sections(
     verb: u64,
     a: Numbers,
 ) -> Numbers {
-    let hashes = storage.hashes;
+    if verb < 503 {
+        let hashes = storage.hashes;
+        return read_hashes(v, some64(&hashes, lent.hashes), verb, a);
+    }
     let versions = storage.versions;
     let log = storage.log;
     let last = storage.last;
-    if verb < 503 {
-        return read_hashes(v, some64(&hashes, lent.hashes), verb, a);
-    }
     read_changes(
         v,
         some32(&versions, lent.versions),

@@ -1,11 +1,11 @@
 // Texts and numbers, written to standard output.
-use crate::names::FOLD;
-use crate::names::NONE;
-use crate::names::REFUSED;
 use crate::numbers::Numbers;
 use crate::read::EXTRA;
+use crate::read::FOLD;
 use crate::read::MISSING;
+use crate::read::NONE;
 use crate::read::NOT_A_NUMBER;
+use crate::read::REFUSED;
 use crate::read::TOO_LARGE;
 use libc::STDOUT_FILENO;
 

@@ -1,6 +1,5 @@
 // What is kept from line to line.
-use crate::numbers::Numbers;
-use crate::numbers::none;
+use exports::slices::SideSlice;
 use stand::Cell;
 use stand::volume::Extent;
 use stand::volume::Volume;
@@ -26,12 +25,11 @@ pub(crate) struct Lent {
     pub sheet: usize,
 }
 
-// A slice whose side is a number.
-pub(crate) struct Plane {
-    pub cell: Cell,
-    pub side: usize,
-    pub width: u64,
-    pub height: u64,
+// Calls made, answers compared, and those that differ.
+pub(crate) struct Tally {
+    pub calls: u64,
+    pub compared: u64,
+    pub differ: u64,
 }
 
 pub(crate) struct Stage {
@@ -40,24 +38,14 @@ pub(crate) struct Stage {
     pub lent: Lent,
     pub mask: [u16; 1024],
     pub list: [i32; 400],
-    pub plane: Plane,
+    pub slice: SideSlice,
     pub rates: [u32; 64],
     pub cut: u32,
     pub sheet: [u64; 12],
     pub mark: u64,
-}
-
-// What a call leaves, and what it answers.
-pub(crate) struct Done {
-    pub stage: Stage,
-    pub answer: Numbers,
-}
-
-pub(crate) fn quiet(stage: Stage) -> Done {
-    Done {
-        stage,
-        answer: none(),
-    }
+    pub tally: Tally,
+    // Whether the text is over.
+    pub over: bool,
 }
 
 // A header that no opening gives: calls before the first opening are refused by 3.
@@ -69,16 +57,6 @@ fn unopened() -> Volume {
         size: none,
         generation: 0,
         solid: 0,
-    }
-}
-
-fn blank() -> Storage {
-    Storage {
-        cells: [0u16; 16384],
-        hashes: [0u64; 12],
-        versions: [0u32; 64],
-        log: [0u32; 64],
-        last: [0u64; 12],
     }
 }
 
@@ -98,23 +76,34 @@ fn unlent() -> Lent {
 
 // Before the first line.
 pub(crate) fn first() -> Stage {
-    let cell = Cell { x: 0, y: 0, z: 0 };
-    let plane = Plane {
-        cell,
-        side: 0,
-        width: 0,
-        height: 0,
+    let storage = Storage {
+        cells: [0u16; 16384],
+        hashes: [0u64; 12],
+        versions: [0u32; 64],
+        log: [0u32; 64],
+        last: [0u64; 12],
     };
     Stage {
         volume: unopened(),
-        storage: blank(),
+        storage,
         lent: unlent(),
         mask: [0u16; 1024],
         list: [0i32; 400],
-        plane,
+        slice: SideSlice {
+            cell: Cell { x: 0, y: 0, z: 0 },
+            side: 0,
+            width: 0,
+            height: 0,
+        },
         rates: [4_294_967_295u32; 64],
         cut: 0,
         sheet: [0u64; 12],
         mark: 0,
+        tally: Tally {
+            calls: 0,
+            compared: 0,
+            differ: 0,
+        },
+        over: false,
     }
 }

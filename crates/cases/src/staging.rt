@@ -1,5 +1,4 @@
 // Lines that set what later calls are lent.
-ghost use Prim.Native.Nat.{_≤_};
 use crate::args::arg;
 use crate::args::cell;
 use crate::args::cents;
@@ -8,107 +7,79 @@ use crate::args::count;
 use crate::args::extent;
 use crate::args::short;
 use crate::numbers::Numbers;
-use crate::stage::Plane;
+use crate::stage::Lent;
 use crate::stage::Stage;
+use exports::slices::SideSlice;
 use stand::volume::Volume;
 
-fn at_most_four(n: usize) -> usize
-    ensures { λ r. ⌜ r ≤ 4 ⌝ }
-{
-    if 4 < n {
-        return 4;
+// Storage and a sheet for as many sections, at most 4.
+fn for_sections(old: Lent, n: u64) -> Lent {
+    let k = (n % 5) as usize;
+    let mut lent = old;
+    lent.cells = k * 4096;
+    lent.hashes = k;
+    lent.versions = k;
+    lent.log = k;
+    lent.last = k;
+    lent.sheet = k * 3;
+    lent
+}
+
+fn lent_by(old: Lent, verb: u64, a: Numbers) -> Lent {
+    let n = count(a, 0);
+    let mut lent = old;
+    match verb {
+        100 => return for_sections(old, arg(a, 0)),
+        101 => {
+            lent.cells = n;
+            lent.hashes = count(a, 1);
+            lent.versions = count(a, 2);
+            lent.log = count(a, 3);
+            lent.last = count(a, 4);
+        }
+        102 => lent.mask = n,
+        103 => lent.list = n,
+        104 => lent.sheet = n,
+        _ => lent.rates = n,
     }
-    n
+    lent
 }
 
-// Storage and a sheet for as many sections.
-fn lend(s: Stage, a: Numbers) -> Stage {
-    let n = at_most_four(count(a, 0));
-    let mut lent = s.lent;
-    lent.cells = n * 4096;
-    lent.hashes = n;
-    lent.versions = n;
-    lent.log = n;
-    lent.last = n;
-    lent.sheet = n * 3;
+// New lengths; mask, list and sheet hold a number in each place.
+fn lend(s: Stage, verb: u64, a: Numbers) -> Stage {
+    let old = s.lent;
+    let lent = lent_by(old, verb, a);
     let mut next = s;
     next.lent = lent;
+    if verb == 102 {
+        next.mask = [short(a, 1); 1024];
+    }
+    if verb == 103 {
+        next.list = [coordinate(a, 1); 400];
+    }
+    if verb == 104 {
+        next.sheet = [arg(a, 1); 12];
+    }
     next
 }
 
-fn storage(s: Stage, a: Numbers) -> Stage {
-    let mut lent = s.lent;
-    lent.cells = count(a, 0);
-    lent.hashes = count(a, 1);
-    lent.versions = count(a, 2);
-    lent.log = count(a, 3);
-    lent.last = count(a, 4);
+// A rate, the cut or the mark.
+fn price(s: Stage, verb: u64, a: Numbers) -> Stage {
     let mut next = s;
-    next.lent = lent;
-    next
-}
-
-fn mask(s: Stage, a: Numbers) -> Stage {
-    let mut lent = s.lent;
-    lent.mask = count(a, 0);
-    let slot = short(a, 1);
-    let slots = [slot; 1024];
-    let mut next = s;
-    next.lent = lent;
-    next.mask = slots;
-    next
-}
-
-fn list(s: Stage, a: Numbers) -> Stage {
-    let mut lent = s.lent;
-    lent.list = count(a, 0);
-    let number = coordinate(a, 1);
-    let numbers = [number; 400];
-    let mut next = s;
-    next.lent = lent;
-    next.list = numbers;
-    next
-}
-
-fn sheet(s: Stage, a: Numbers) -> Stage {
-    let mut lent = s.lent;
-    lent.sheet = count(a, 0);
-    let number = arg(a, 1);
-    let numbers = [number; 12];
-    let mut next = s;
-    next.lent = lent;
-    next.sheet = numbers;
-    next
-}
-
-fn rates(s: Stage, a: Numbers) -> Stage {
-    let mut lent = s.lent;
-    lent.rates = count(a, 0);
-    let mut next = s;
-    next.lent = lent;
-    next
-}
-
-fn rate(s: Stage, a: Numbers) -> Stage {
+    if verb == 110 {
+        next.cut = cents(a, 0);
+        return next;
+    }
+    if verb == 111 {
+        next.mark = arg(a, 0);
+        return next;
+    }
     let finish = count(a, 0);
     let mut rates = s.rates;
     if finish < 64 {
         rates[finish] = cents(a, 1);
     }
-    let mut next = s;
     next.rates = rates;
-    next
-}
-
-fn cut(s: Stage, a: Numbers) -> Stage {
-    let mut next = s;
-    next.cut = cents(a, 0);
-    next
-}
-
-fn mark(s: Stage, a: Numbers) -> Stage {
-    let mut next = s;
-    next.mark = arg(a, 0);
     next
 }
 
@@ -129,31 +100,25 @@ fn header(s: Stage, a: Numbers) -> Stage {
     next
 }
 
-fn plane(s: Stage, a: Numbers) -> Stage {
+// A slice of any numbers.
+fn slice(s: Stage, a: Numbers) -> Stage {
     let low = cell(a, 0);
-    let plane = Plane {
+    let slice = SideSlice {
         cell: low,
-        side: count(a, 3),
+        side: cents(a, 3),
         width: arg(a, 4),
         height: arg(a, 5),
     };
     let mut next = s;
-    next.plane = plane;
+    next.slice = slice;
     next
 }
 
 pub(crate) fn set_stage(s: Stage, verb: u64, a: Numbers) -> Stage {
     match verb {
-        100 => lend(s, a),
-        101 => storage(s, a),
-        102 => mask(s, a),
-        103 => list(s, a),
-        104 => rates(s, a),
-        105 => rate(s, a),
-        106 => cut(s, a),
-        107 => sheet(s, a),
-        108 => mark(s, a),
-        109 => header(s, a),
-        _ => plane(s, a),
+        100..=109 => lend(s, verb, a),
+        110..=119 => price(s, verb, a),
+        120 => header(s, a),
+        _ => slice(s, a),
     }
 }

@@ -1,36 +1,23 @@
 // One line: read, its call made and its answer compared.
-use crate::calls::call;
+use crate::call::make;
 use crate::compare::agrees;
 use crate::input::Input;
 use crate::input::read_line;
-use crate::lend::part8;
+use crate::lend::some_bytes;
+use crate::numbers::Numbers;
+use crate::parse::Parsed;
 use crate::parse::parse;
 use crate::show::fault;
 use crate::show::plain;
 use crate::show::text;
 use crate::show::which;
 use crate::stage::Stage;
+use crate::stage::Tally;
 
-// Calls made, answers compared, and those that differ.
-pub(crate) struct Tally {
-    pub calls: u64,
-    pub compared: u64,
-    pub differ: u64,
-}
-
-// What is kept after a line, and whether the text is over.
-pub(crate) struct Taken {
+// What a call leaves, and what it answers.
+pub(crate) struct Done {
     pub stage: Stage,
-    pub tally: Tally,
-    pub over: bool,
-}
-
-pub(crate) fn start() -> Tally {
-    Tally {
-        calls: 0,
-        compared: 0,
-        differ: 0,
-    }
+    pub answer: Numbers,
 }
 
 fn report(t: Tally) {
@@ -42,77 +29,66 @@ fn report(t: Tally) {
     text(b" differ\n");
 }
 
-// After the last line, or at one that is too long.
-fn stop(line: u64, stage: Stage, tally: Tally, input: Input) -> Taken {
-    let over = Taken {
-        stage,
-        tally,
-        over: true,
-    };
-    let Input::TooLong = input else {
-        report(tally);
-        return over;
-    };
-    which(line);
-    text(b"longer than 1000 bytes\n");
-    over
+// After the last line, or at one that is too long or no call: after it no answer would be right.
+fn stop(line: u64, s: Stage, input: Input, f: u64) -> Stage {
+    match input {
+        Input::End => {
+            let t = s.tally;
+            report(t);
+        }
+        Input::TooLong => {
+            which(line);
+            text(b"longer than 1000 bytes\n");
+        }
+        Input::Line(_) => {
+            which(line);
+            fault(f);
+        }
+    }
+    let mut next = s;
+    next.over = true;
+    next
 }
 
-fn one_if(b: bool) -> u64 {
-    if b {
-        return 1;
+// A call more, its answer compared where the line gives one.
+fn count(line: u64, old: Tally, p: Parsed, answer: Numbers) -> Tally {
+    let mut t = old;
+    t.calls = std::num::wrapping_add_u64(old.calls, 1);
+    if !p.compared {
+        return t;
     }
-    0
+    t.compared = std::num::wrapping_add_u64(old.compared, 1);
+    let expected = p.expected;
+    if agrees(line, expected, answer) {
+        return t;
+    }
+    t.differ = std::num::wrapping_add_u64(old.differ, 1);
+    t
 }
 
-fn counted(t: Tally, compared: bool, differs: bool) -> Tally {
-    Tally {
-        calls: std::num::wrapping_add_u64(t.calls, 1),
-        compared: std::num::wrapping_add_u64(t.compared, one_if(compared)),
-        differ: std::num::wrapping_add_u64(t.differ, one_if(differs)),
-    }
+fn run(line: u64, s: Stage, p: Parsed) -> Stage {
+    let args = p.args;
+    let done = make(s, p.verb, args);
+    let answer = done.answer;
+    let tally = s.tally;
+    let next_tally = count(line, tally, p, answer);
+    let mut next = done.stage;
+    next.tally = next_tally;
+    next
 }
 
-// A line with no call: nothing to do, or a fault, after which no answer would be right.
-fn skip(line: u64, stage: Stage, tally: Tally, f: u64) -> Taken {
-    if f == 0 {
-        return Taken {
-            stage,
-            tally,
-            over: false,
-        };
-    }
-    which(line);
-    fault(f);
-    Taken {
-        stage,
-        tally,
-        over: true,
-    }
-}
-
-pub(crate) fn turn(line: u64, s: Stage, t: Tally) -> Taken {
+pub(crate) fn turn(line: u64, s: Stage) -> Stage {
     let mut bytes = [0u8; 1001];
     let input = read_line(&mut bytes);
     let Input::Line(n) = input else {
-        return stop(line, s, t, input);
+        return stop(line, s, input, 0);
     };
-    let p = parse(part8(&bytes, n));
+    let p = parse(some_bytes(&bytes, n));
+    if p.fault != 0 {
+        return stop(line, s, input, p.fault);
+    }
     if p.verb == 0 {
-        return skip(line, s, t, p.fault);
+        return s;
     }
-    let args = p.args;
-    let done = call(s, p.verb, args);
-    let stage = done.stage;
-    let answer = done.answer;
-    let mut differs = false;
-    if p.compared {
-        let expected = p.expected;
-        differs = !agrees(line, expected, answer);
-    }
-    Taken {
-        stage,
-        tally: counted(t, p.compared, differs),
-        over: false,
-    }
+    run(line, s, p)
 }

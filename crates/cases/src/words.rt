@@ -1,4 +1,4 @@
-// The words of a line: what stands between blanks, up to a comment.
+// The words of a line: what stands between blanks, up to a word that starts with '#'.
 
 // Where a word stands: from its first byte to past its last. It is empty where the line has no more.
 pub(crate) struct Word {
@@ -14,41 +14,12 @@ pub(crate) fn peek(line: &[u8], at: usize) -> u8 {
     line[at]
 }
 
-fn is_blank(b: u8) -> bool {
-    if b == b' ' {
-        return true;
-    }
-    if b == b'\t' {
-        return true;
-    }
-    b == b'\r'
-}
-
-// Whether no word goes on here.
-fn is_end(b: u8) -> bool {
-    if is_blank(b) {
-        return true;
-    }
-    b == b'#'
-}
-
-// The first index that holds no blank.
-fn skip_blanks(line: &[u8], at: usize) -> usize {
+// The first index from `at` on at which blanks begin, or end.
+fn run(line: &[u8], at: usize, begin: bool) -> usize {
     let mut i = at;
     while i < line.len() {
-        if !is_blank(line[i]) {
-            return i;
-        }
-        i += 1;
-    }
-    i
-}
-
-// The first index past the word.
-fn word_end(line: &[u8], at: usize) -> usize {
-    let mut i = at;
-    while i < line.len() {
-        if is_end(line[i]) {
+        let blank = line[i] <= b' ';
+        if blank == begin {
             return i;
         }
         i += 1;
@@ -58,29 +29,53 @@ fn word_end(line: &[u8], at: usize) -> usize {
 
 // The next word.
 pub(crate) fn word_at(line: &[u8], at: usize) -> Word {
-    let from = skip_blanks(line, at);
-    let to = word_end(line, from);
+    let from = run(line, at, false);
+    if peek(line, from) == b'#' {
+        return Word { from, to: from };
+    }
+    let to = run(line, from, true);
     Word { from, to }
 }
 
-pub(crate) fn length(w: Word) -> usize {
-    std::num::wrapping_sub_usize(w.to, w.from)
-}
-
 // Whether two words are the same.
-pub(crate) fn same(a: &[u8], v: Word, b: &[u8], w: Word) -> bool {
-    let n = length(v);
-    if n != length(w) {
+fn same(a: &[u8], v: Word, b: &[u8], w: Word) -> bool {
+    let n = std::num::wrapping_sub_usize(v.to, v.from);
+    if n != std::num::wrapping_sub_usize(w.to, w.from) {
         return false;
     }
     let mut i = 0;
     while i < n {
         let x = peek(a, std::num::wrapping_add_usize(v.from, i));
-        let y = peek(b, std::num::wrapping_add_usize(w.from, i));
-        if x != y {
+        if x != peek(b, std::num::wrapping_add_usize(w.from, i)) {
             return false;
         }
         i += 1;
     }
     true
+}
+
+// Two words that follow a name in a table; empty ones where the table lacks the name.
+pub(crate) struct Entry {
+    pub first: Word,
+    pub second: Word,
+}
+
+// Looks a word of a line up in a table: a name and two words, and so on.
+pub(crate) fn find(line: &[u8], w: Word, table: &[u8]) -> Entry {
+    let mut at = 0;
+    let mut turns = 0;
+    while turns < table.len() {
+        let name = word_at(table, at);
+        let first = word_at(table, name.to);
+        let second = word_at(table, first.to);
+        if same(line, w, table, name) {
+            return Entry { first, second };
+        }
+        at = second.to;
+        turns += 1;
+    }
+    Entry {
+        first: Word { from: 0, to: 0 },
+        second: Word { from: 0, to: 0 },
+    }
 }

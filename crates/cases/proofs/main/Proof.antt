@@ -5,16 +5,13 @@ use Rattle.cases.proofs.main.Statement.{statement}
 use Rattle.cases.proofs.main.Tie as tie
 
 abbrev Inv-loop : tie.InvT-loop
-Inv-loop stage₀ tally₀ line₀ stage tally line = line ≤ 18446744073709551615
+Inv-loop stage₀ line₀ stage line = line ≤ 18446744073709551615
 
 abbrev μ-loop : tie.MeasureT-loop
-μ-loop stage₀ tally₀ line₀ stage tally line = 18446744073709551615 - line
+μ-loop stage₀ line₀ stage line = 18446744073709551615 - line
 
 first-requires : tie.Need-first-requires Inv-loop μ-loop
 first-requires c κs = search needs
-
-start-requires : tie.Need-start-requires Inv-loop μ-loop
-start-requires c κs = search needs
 
 loop-holds : tie.Need-loop-holds Inv-loop μ-loop
 loop-holds c = search needs
@@ -44,7 +41,6 @@ main-spec =
     Inv-loop
     μ-loop
     first-requires
-    start-requires
     loop-holds
     add-line
     turn-requires

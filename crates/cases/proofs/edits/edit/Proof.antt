@@ -38,6 +38,9 @@ lend64-requires-2 c κs = search needs
 edit-lent-requires : tie.Need-edit-lent-requires
 edit-lent-requires c κs = search needs
 
+edited-requires : tie.Need-edited-requires
+edited-requires c κs = search needs
+
 returns : tie.Need-returns
 returns c = search needs
 
@@ -56,4 +59,5 @@ edit-spec =
     slice-aggregate-lend64-2
     lend64-requires-2
     edit-lent-requires
+    edited-requires
     returns)

@@ -35,8 +35,11 @@ rule-requires c κs = search needs
 measure-lent-requires : tie.Need-measure-lent-requires
 measure-lent-requires c κs = search needs
 
-measured-requires : tie.Need-measured-requires
-measured-requires c κs = search needs
+one-requires : tie.Need-one-requires
+one-requires c κs = search needs
+
+said-requires : tie.Need-said-requires
+said-requires c κs = search needs
 
 returns : tie.Need-returns
 returns c = search needs
@@ -55,5 +58,6 @@ measure-spec =
     some32-requires-2
     rule-requires
     measure-lent-requires
-    measured-requires
+    one-requires
+    said-requires
     returns)

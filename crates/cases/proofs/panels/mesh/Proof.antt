@@ -23,6 +23,9 @@ some-cells-requires c κs = search needs
 mesh-lent-requires : tie.Need-mesh-lent-requires
 mesh-lent-requires c κs = search needs
 
+meshed-requires : tie.Need-meshed-requires
+meshed-requires c κs = search needs
+
 returns : tie.Need-returns
 returns c = search needs
 
@@ -36,4 +39,5 @@ mesh-spec =
     lend-list-requires
     some-cells-requires
     mesh-lent-requires
+    meshed-requires
     returns)

@@ -5,10 +5,10 @@ use Rattle.cases.proofs.read.digits.Statement.{statement}
 use Rattle.cases.proofs.read.digits.Tie as tie
 
 abbrev Inv-loop : tie.InvT-loop
-Inv-loop line to n₀ i₀ n i = n < 18446744073709551616
+Inv-loop line from to n₀ i₀ n i = n < 18446744073709551616
 
 abbrev μ-loop : tie.MeasureT-loop
-μ-loop line to n₀ i₀ n i = to - i
+μ-loop line from to n₀ i₀ n i = to - i
 
 bad-requires : tie.Need-bad-requires Inv-loop μ-loop
 bad-requires c κs = search needs

@@ -5,13 +5,10 @@ use Rattle.cases.proofs.verb.check.Statement.{statement}
 use Rattle.cases.proofs.verb.check.Tie as tie
 
 abbrev Inv-loop : tie.InvT-loop
-Inv-loop table kinds n list i₀ i = i ≤ 64
+Inv-loop table kinds n a i₀ i = i ≤ 64
 
 abbrev μ-loop : tie.MeasureT-loop
-μ-loop table kinds n list i₀ i = 64 - i
-
-wanted-requires : tie.Need-wanted-requires Inv-loop μ-loop
-wanted-requires c κs = search needs
+μ-loop table kinds n a i₀ i = 64 - i
 
 returns : tie.Need-returns Inv-loop μ-loop
 returns c = search needs
@@ -34,8 +31,8 @@ peek-requires c κs = search needs
 mul-fits : tie.Need-mul-fits Inv-loop μ-loop
 mul-fits c = search needs
 
-array-read-fits : tie.Need-array-read-fits Inv-loop μ-loop
-array-read-fits c = search needs
+element-copy-out-fits : tie.Need-element-copy-out-fits Inv-loop μ-loop
+element-copy-out-fits c = search needs
 
 fits-requires : tie.Need-fits-requires Inv-loop μ-loop
 fits-requires c κs = search needs
@@ -61,7 +58,6 @@ check-spec =
     (tie.spec
     Inv-loop
     μ-loop
-    wanted-requires
     returns
     returns-2
     loop-holds
@@ -69,7 +65,7 @@ check-spec =
     wrapping-add-usize-requires
     peek-requires
     mul-fits
-    array-read-fits
+    element-copy-out-fits
     fits-requires
     returns-4
     add-i

@@ -1,6 +1,5 @@
 -- `cases::words::same` meets its contract.
 use Prim.Native.Nat.{_-_, _≤_}
-use lib.ListN.{length}
 use borrow.Author.Needs.{needs}
 use Rattle.cases.proofs.words.same.Statement.{statement}
 use Rattle.cases.proofs.words.same.Tie as tie
@@ -11,11 +10,11 @@ Inv-loop a v b w n i₀ i = i ≤ n
 abbrev μ-loop : tie.MeasureT-loop
 μ-loop a v b w n i₀ i = n - i
 
-length-requires : tie.Need-length-requires Inv-loop μ-loop
-length-requires c κs = search needs
+wrapping-sub-usize-requires : tie.Need-wrapping-sub-usize-requires Inv-loop μ-loop
+wrapping-sub-usize-requires c κs = search needs
 
-length-requires-2 : tie.Need-length-requires-2 Inv-loop μ-loop
-length-requires-2 c κs = search needs
+wrapping-sub-usize-requires-2 : tie.Need-wrapping-sub-usize-requires-2 Inv-loop μ-loop
+wrapping-sub-usize-requires-2 c κs = search needs
 
 returns : tie.Need-returns Inv-loop μ-loop
 returns c = search needs
@@ -56,8 +55,8 @@ same-spec =
     (tie.spec
     Inv-loop
     μ-loop
-    length-requires
-    length-requires-2
+    wrapping-sub-usize-requires
+    wrapping-sub-usize-requires-2
     returns
     loop-holds
     wrapping-add-usize-requires
