@@ -1,9 +1,12 @@
 -- The claim proved.
 pub mod Accepted
 pub mod Books
+pub mod Breadth
 pub mod Claimed
 pub mod Enough
-pub mod Example
+pub mod Finishes
+pub mod Following
+pub mod Going
 pub mod Kept
 pub mod Lent
 pub mod Measured
@@ -17,6 +20,7 @@ pub mod Same
 pub mod Sheeted
 pub mod Shows
 pub mod Since
+pub mod Starting
 pub mod Steps
 pub mod Tells
 pub mod Trestles

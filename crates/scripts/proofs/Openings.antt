@@ -40,7 +40,7 @@ alike g a b h = go (first (shapeRules g)) refl
     go (suc n) e = first-part (shapeRules g) ((a ⇒ 4) ∷ []) (λ z. omega arith) ∙ sym (first-part (shapeRules g) ((b ⇒ 4) ∷ []) (λ z. omega arith))
 
 -- nothing turns it back: 1 and 2 let it pass, and it has at most 4 sections
-number-passed : (o : Cell) (size : Extent) → openNumber (openedShape o size) ≡ 0 → (first (shapeRules (openedShape o size)) ≡ 0) × (sections (openedShape o size) ≤ 4)
+pub number-passed : (o : Cell) (size : Extent) → openNumber (openedShape o size) ≡ 0 → (first (shapeRules (openedShape o size)) ≡ 0) × (sections (openedShape o size) ≤ 4)
 unfolding openNumber
 number-passed o size e =
     let p = passes _ _ _ e in
@@ -77,7 +77,7 @@ module _ (s : Storage) (u : Full s) (o : Cell) (size : Extent) where
       (λ h. ap not (fits-not e (ltb-true _ _ h)) ∙ sym h)
       (λ h. ap not (fits-few e (ltb-false _ _ h)) ∙ sym h)
 
-  number-is : openRefusal g (lengthsOf (front n s)) ≡ openNumber g
+  pub number-is : openRefusal g (lengthsOf (front n s)) ≡ openNumber g
   unfolding openRefusal openNumber
   number-is = alike g _ _ fits-is
 

@@ -18,7 +18,7 @@ use Rattle.sheet.specs.declared.Row.{Row}
 use Rattle.ledger.specs.Book.{Book}
 use Rattle.ledger.specs.Calls.{Four}
 use Rattle.ledger.specs.Claim.{bookSums}
-use Rattle.ledger.proofs.Right.{right}
+use Rattle.ledger.proofs.Right.{face-once, right}
 use Rattle.ledger.proofs.Shows.{Shows}
 use Rattle.interpreter.specs.Run.{Priced, front, held, measureCall, priceReply, priced, pricedOf, refreshStep, refreshWith, termsIn, turnOf}
 use Rattle.interpreter.specs.declared.Machine.{Machine}
@@ -62,19 +62,24 @@ module _ (m : Machine) (s : Storage) (rates mask sheet : List ℕ) (u : Full s) 
       rows-are : length rows ≡ w .n * 3
       rows-are = a .shows .length-is ∙ ap (λ n. n * 3) (sym (w .n-is))
 
+      -- totals turns nothing back, and answers the sums
+      pub totalled : priceReply (m .volume .generation) (totalsCall (m .volume) rows) ≡ R.Price (b .count) (bookSums terms b)
+      totalled =
+          ap (priceReply (m .volume .generation)) (right terms (four r rows) b (w .tells) (a .shows) (a .mark-is) .totals-are)
+          ∙ ap (λ n. R.Price n (bookSums terms b)) (w .tells .count-is)
+
       fair-line : (generation : ℕ) (row : Row) → priceReply (m .volume .generation) (totalsCall (m .volume) rows) ≡ R.Price generation row
           → Fair (record { book = some b; rates = rates; cut = m .cut }) generation row
       fair-line generation row p =
-          let g = right terms (four r rows) b (w .tells) (a .shows) (a .mark-is) in
-          let line : R.Price (m .volume .generation) (bookSums terms b) ≡ R.Price generation row = sym (ap (priceReply (m .volume .generation)) (g .totals-are)) ∙ p in
-          let c : m .volume .generation ≡ generation = cc in
+          let line : R.Price (b .count) (bookSums terms b) ≡ R.Price generation row = sym totalled ∙ p in
+          let c : b .count ≡ generation = cc in
           let d : bookSums terms b ≡ row = cc in
           record {
             book = b;
             stand = refl;
-            count-is = sym c ∙ w .tells .count-is;
+            count-is = sym c;
             sums-are = sym d;
-            faces-once = g .faces-once;
+            faces-once = face-once terms b (w .tells .opened);
             cut-within = a .cut-in;
             rated = a .priced-all;
           }
@@ -123,7 +128,7 @@ module _ (m : Machine) (s : Storage) (rates mask sheet : List ℕ) (u : Full s) 
   -- ---- any stand
 
   -- before the first opening 3 turns it back
-  ill : (stale : Bool) (v : Volume) (cells log last rows : List ℕ) → wellFormed v ≡ false
+  pub ill : (stale : Bool) (v : Volume) (cells log last rows : List ℕ) → wellFormed v ≡ false
       → cond stale (C.openCall terms v cells (m .marks) mask rows) (C.refreshCall terms v cells log last (m .marks) mask rows)
       ≡ C.outcomeOf (C.refused 3) (m .marks) mask rows
   unfolding C.openCall C.refreshCall measureRefusal measuring first

@@ -2,3 +2,6 @@
 pub mod Bytes
 pub mod Page
 pub mod Quotes
+pub mod Said
+pub mod Sample
+pub mod Says
