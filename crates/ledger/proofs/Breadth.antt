@@ -1,5 +1,5 @@
 -- How wide the claim is, proved.
-use mathlib.Core.Path.{_≡_, refl, sym, ap, _∙_}
+use mathlib.Core.Path.{_≡_, refl, sym, ap, _∙_, subst}
 use mathlib.Core.Bool.{true}
 use mathlib.Core.List.{List, [], _∷_, _++_}
 use mathlib.Core.Option.{none, some}
@@ -14,19 +14,20 @@ use Rattle.stand.specs.Shape.{counted, sections}
 use Rattle.stand.specs.Storage.{Lengths, Storage, freshStorage, joined, lengthsOf, storageFits, volumeOf}
 use Rattle.stand.specs.declared.Cell.{Cell}
 use Rattle.stand.specs.declared.volume.Extent.{Extent}
-use Rattle.sheet.specs.Card.{Terms, limit, payable}
+use Rattle.sheet.specs.Card.{Terms, limit, payable, termsOf}
 use Rattle.ledger.specs.Book as B
 use Rattle.ledger.specs.Book.{Book, openBook, writeOpen}
-use Rattle.ledger.specs.Breadth.{Breadth, Grows}
+use Rattle.ledger.specs.Breadth.{Breadth, Grows, opening}
 use Rattle.ledger.specs.Calls as C
 use Rattle.ledger.specs.Calls.{Call, Four, Op, Origin, accepted, book, call, feed, given, own, result, run, step, write}
 use Rattle.ledger.specs.Claim.{All, Lent, Priced, Start, bookAfter, fourAfter}
 use Rattle.ledger.specs.Trestles.{cell, extent}
 use Rattle.ledger.proofs.Claimed.{append-all, tells-after, written-append}
+use Rattle.ledger.proofs.Kept.{LentBy}
 use Rattle.ledger.proofs.Enough.{Paid, open-accepted}
 use Rattle.ledger.proofs.Starting.{reaches, stand-accepted, starts}
-use Rattle.ledger.proofs.Following.{own-lists, refused-by-4}
-use Rattle.ledger.proofs.Finishes.{card}
+use Rattle.ledger.proofs.Finishes.{open-rated, priceable}
+use Rattle.ledger.proofs.Following.{own-lent, own-lists, refused-by-4}
 use Rattle.ledger.proofs.Going.{priced-so, wide}
 
 -- ---- the stand opened anew
@@ -56,16 +57,16 @@ module _ (a : Start) (xs : List Call) (w : All Lent (fourAfter a []) xs) (o : Or
   paid-none t b p c i = ap (λ (b : Book). payable (t .rates) (b .look c)) p
 
   -- opening the sheet writes nothing into the book
-  same-book : (l m : List ℕ) (t : Terms) → bookAfter a (more ++ (call none (some l) (Op.openSheet t m) ∷ [])) ≡ bookAfter a more
+  same-book : (l m : List ℕ) (t : Terms) → bookAfter a (more ++ (opening t l m ∷ [])) ≡ bookAfter a more
   unfolding book feed write
-  same-book l m t = written-append a more (call none (some l) (Op.openSheet t m) ∷ [])
+  same-book l m t = written-append a more (opening t l m ∷ [])
 
   anew : (l m : List ℕ) (t : Terms) → length l ≡ sections (openedShape (o .cell) size) * 3 → 256 ≤ length m → t .cut ≤ limit
-      → Priced a more (call none (some l) (Op.openSheet t m)) [] (own (Op.refresh t m)) t
+      → Priced a more (opening t l m) [] (own (Op.refresh t m)) t
   unfolding All openBook
   anew l m t len room cut =
       priced-so a more lent-anew t m l room cut (len ∙ ap (λ (b : Book). sections (b .shape) * 3) (sym book-anew)) (paid-none t (bookAfter a more) book-anew) [] tt tt
-      (paid-none t (bookAfter a (more ++ (call none (some l) (Op.openSheet t m) ∷ []))) (same-book l m t ∙ book-anew))
+      (paid-none t (bookAfter a (more ++ (opening t l m ∷ []))) (same-book l m t ∙ book-anew))
 
 -- ---- from one cell to 17
 
@@ -112,8 +113,11 @@ two-sections = refl
 abbrev slots : List ℕ
 slots = replicate 256 0
 
+abbrev free : Terms
+free = termsOf [] 0 true
+
 abbrev sheetFirst : List Call
-sheetFirst = own (Op.openSheet (card 0) slots) ∷ []
+sheetFirst = own (Op.openSheet (free) slots) ∷ []
 
 none-yet : All Lent (fourAfter small []) []
 unfolding All
@@ -121,19 +125,19 @@ none-yet = tt
 
 first-lent : All Lent (fourAfter small []) sheetFirst
 unfolding All
-first-lent = (own-lists (fourAfter small []) (Op.openSheet (card 0) slots), tt)
+first-lent = (own-lent (fourAfter small []) (Op.openSheet (free) slots), tt)
 
 small-sheet : length (fourAfter small [] .sheet) ≡ 3
 unfolding fourAfter run step C.leftBy given result C.opened
 small-sheet = refl
 
-small-paid : Paid (card 0) (bookAfter small [] .shape) (bookAfter small [] .look)
+small-paid : Paid (free) (bookAfter small [] .shape) (bookAfter small [] .look)
 unfolding bookAfter book feed openBook payable
 small-paid c i = refl
 
-first-opened : accepted (fourAfter small []) (own (Op.openSheet (card 0) slots)) ≡ true
+first-opened : accepted (fourAfter small []) (own (Op.openSheet (free) slots)) ≡ true
 first-opened =
-    open-accepted (fourAfter small []) (bookAfter small []) (tells-after small [] none-yet) (card 0) slots
+    open-accepted (fourAfter small []) (bookAfter small []) (tells-after small [] none-yet) (free) slots
     (record { mask = omega arith; cut = omega arith; paid = small-paid }) none (small-sheet ∙ ap (λ (n : ℕ). n * 3) (sym one-section))
 
 grown : Grows
@@ -146,11 +150,11 @@ grown =
       other = freshStorage 2;
       longer = replicate 6 0;
       mask = slots;
-      terms = card 0;
+      terms = free;
       one = one-section;
       opened = first-opened;
       two = ap (λ (b : Book). sections (b .shape)) (book-anew small sheetFirst first-lent corner row (freshStorage 2) opens-two) ∙ two-sections;
-      priced = anew small sheetFirst first-lent corner row (freshStorage 2) opens-two (replicate 6 0) slots (card 0)
+      priced = anew small sheetFirst first-lent corner row (freshStorage 2) opens-two (replicate 6 0) slots (free)
           (ap (λ (n : ℕ). n * 3) (sym two-sections)) (omega arith) (omega arith);
     }
 
@@ -164,7 +168,9 @@ breadth =
       refused-by-4 = refused-by-4;
       stand-anew = λ s st o size. tt;
       sheet-anew = λ s l t m. tt;
+      leaves-any = λ s c e. subst (LentBy s c) (sym e) tt;
       wide = wide;
+      priceable = priceable;
       anew = λ a xs w o size st l m t e. anew a xs w o size st e l m t;
       grows = grown;
     }

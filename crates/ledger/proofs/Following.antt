@@ -5,7 +5,7 @@ use mathlib.Core.List.{List, [], _∷_, map}
 use mathlib.Core.Option.{Option, none, some}
 use Prim.Native.Nat.{ℕ, _+_, _*_, _≤_}
 use native.Mathlib.Omega.{arith}
-use borrow.Author.Tests.{eqb-false, ne-eqb}
+use borrow.Author.Tests.{eqb-false, ne-eqb, not-true}
 use lib.Dec.{eqb}
 use lib.ListN.{length}
 use Rattle.stand.specs.Edit.{fitting}
@@ -21,13 +21,14 @@ use Rattle.mesh.specs.Cover.{Each}
 use Rattle.mesh.specs.Near.{near}
 use Rattle.sheet.specs.Calls.{openFits, refreshFits}
 use Rattle.sheet.specs.Card.{Terms}
-use Rattle.ledger.specs.Book.{Book, noteBook, setBook, writeSet}
-use Rattle.ledger.specs.Breadth.{Later, later}
+use Rattle.ledger.specs.Book.{Book, Edit, noteBook, setBook, writeSet}
+use Rattle.ledger.specs.Breadth.{Later, later, sets}
 use Rattle.ledger.specs.Calls as C
-use Rattle.ledger.specs.Calls.{Call, Effect, Four, Op, accepted, book, call, effectOf, feed, given, own, result, run, sheeted, step, unfit, write}
+use Rattle.ledger.specs.Calls.{Call, Effect, Four, Op, accepted, book, call, edited, effectOf, feed, given, own, result, run, sheeted, step, unfit, write}
 use Rattle.ledger.specs.Claim.{All, Keeps, KeepsTo, Lent, Uses}
 use Rattle.ledger.proofs.Books.{by-book}
 use Rattle.ledger.proofs.Kept.{AcceptedBy, LentBy, tells-step}
+use Rattle.ledger.proofs.Lent.{fill-unfit, set-unfit}
 use Rattle.ledger.proofs.Sheeted.{both-ways, open-fits, refresh-passed}
 use Rattle.ledger.proofs.Shows.{Clean, unless-so}
 use Rattle.ledger.proofs.Tells.{Tells, open-passed}
@@ -35,9 +36,9 @@ use Rattle.ledger.proofs.Starting.{given-number}
 
 -- ---- the four's own lists
 
-pub own-lists : (s : Four) (o : Op) → Lent s (own o)
+pub own-lent : (s : Four) (o : Op) → Lent s (own o)
 unfolding Lent
-own-lists s o = go (effectOf o)
+own-lent s o = go (effectOf o)
   where
     go : (e : Effect) → LentBy s (own o) e
     go (Effect.opensStand p size) = tt
@@ -45,6 +46,11 @@ own-lists s o = go (effectOf o)
     go (Effect.opensSheet t m) = tt
     go (Effect.refreshes t m) = (tt, tt)
     go Effect.leaves = tt
+
+pub own-lists : (s : Four) (os : List Op) → All Lent s (map own os)
+unfolding All
+own-lists s [] = tt
+own-lists s (o ∷ os) = (own-lent s o, own-lists (step s (own o)) os)
 
 -- ---- lists that 4 refuses
 
@@ -61,19 +67,23 @@ uses-so (Effect.refreshes t m) (some st) none a = (a, tt)
 uses-so (Effect.refreshes t m) (some st) (some l) a = (a, a)
 uses-so Effect.leaves st l a = tt
 
--- and the call is turned back
-turned : (s : Four) (t : Terms) (e : Effect) → unfit s e ≡ true → result s e .accepted ≡ true → KeepsTo t e
-unfolding unfit result C.opened sheeted O.openCall
-turned s t (Effect.opensStand p size) u e =
-    both-ways _ u (open-passed (p .cell) size (lengthsOf (storage (s .state))) (given-number _ (storage (s .state)) (openedShape (p .cell) size) e) .1)
-turned s t (Effect.edits d) u e = tt
-turned s t (Effect.opensSheet x m) u e = both-ways _ u (open-fits s x m (s .state) (s .sheet) e)
-turned s t (Effect.refreshes x m) u e = absurd (both-ways _ u (refresh-passed s x m (s .state) (s .sheet) e .fits-is))
-turned s t Effect.leaves u e = tt
+-- and a call that would write one of the four is refused
+pub unfit-refused : (s : Four) (e : Effect) → unfit s e ≡ true → result s e .accepted ≡ true → e ≡ Effect.leaves
+unfolding unfit result C.opened edited sheeted O.openCall
+unfit-refused s (Effect.opensStand p size) u a =
+    absurd (both-ways _ u (open-passed (p .cell) size (lengthsOf (storage (s .state))) (given-number _ (storage (s .state)) (openedShape (p .cell) size) a) .1))
+unfit-refused s (Effect.edits (Edit.one c v)) u a = absurd (set-unfit (s .state) c v (not-true _ u) a)
+unfit-refused s (Effect.edits (Edit.box c d v)) u a = absurd (fill-unfit (s .state) c d v (not-true _ u) a)
+unfit-refused s (Effect.opensSheet x m) u a = absurd (both-ways _ u (open-fits s x m (s .state) (s .sheet) a))
+unfit-refused s (Effect.refreshes x m) u a = absurd (both-ways _ u (refresh-passed s x m (s .state) (s .sheet) a .fits-is))
+unfit-refused s Effect.leaves u a = refl
+
+unfit-keeps : (s : Four) (t : Terms) (e : Effect) → unfit s e ≡ true → result s e .accepted ≡ true → KeepsTo t e
+unfit-keeps s t e u a = subst (KeepsTo t) (sym (unfit-refused s e u a)) tt
 
 pub refused-by-4 : (s : Four) (c : Call) → unfit (given s c) (effectOf (c .op)) ≡ true → Lent s c × ((t : Terms) → Keeps t s c)
 unfolding Lent Keeps accepted
-refused-by-4 s c u = (uses-so (effectOf (c .op)) (c .storage) (c .sheet) u, λ t. turned (given s c) t (effectOf (c .op)) u)
+refused-by-4 s c u = (uses-so (effectOf (c .op)) (c .storage) (c .sheet) u, λ t. unfit-keeps (given s c) t (effectOf (c .op)) u)
 
 -- lists of length 0
 abbrev bare : Op → Call
@@ -100,32 +110,30 @@ module _ (s : Four) (b : Book) (k : Tells (s .state) b) (t : Terms) (o : Op) whe
 
   none-so : (e : Effect) → LentBy s (bare o) e × (AcceptedBy s (bare o) e → KeepsTo t e)
   unfolding unfit given result C.opened O.openCall fitting
-  none-so (Effect.opensStand p size) =
-      (tt, λ e.
-      let q = open-passed (p .cell) size nothing (given-number _ (storageOf [] [] [] [] []) (openedShape (p .cell) size) e) in
-      false≢true (sym (none-fit _ (sections-some (openedShape (p .cell) size) (q .0))) ∙ q .1))
+  none-so (Effect.opensStand p size) = (
+    tt,
+    λ e.
+        let q = open-passed (p .cell) size nothing (given-number _ (storageOf [] [] [] [] []) (openedShape (p .cell) size) e) in
+        false≢true (sym (none-fit _ (sections-some (openedShape (p .cell) size) (q .0))) ∙ q .1),
+  )
   none-so (Effect.edits d) = (ap not (none-fit _ some-sections), λ e. tt)
   none-so (Effect.opensSheet x m) =
-      let u = ap not (none-open _ some-sections) in (u, turned (given s (bare o)) t (Effect.opensSheet x m) u)
+      let u = ap not (none-open _ some-sections) in (u, unfit-keeps (given s (bare o)) t (Effect.opensSheet x m) u)
   none-so (Effect.refreshes x m) =
-      let u = ap not (none-refresh _ some-sections) in ((u, u), turned (given s (bare o)) t (Effect.refreshes x m) u)
+      let u = ap not (none-refresh _ some-sections) in ((u, u), unfit-keeps (given s (bare o)) t (Effect.refreshes x m) u)
   none-so Effect.leaves = (tt, λ e. tt)
 
 -- ---- the calls that may follow the sheet's opening
 
--- cells set
-abbrev pub sets : List Cell → ℕ → List Call
-sets cs v = map (λ c. own (Op.set c v)) cs
-
 module _ (t : Terms) where
   later-so : (s : Four) (b : Book) → Tells (s .state) b → (y : Later) → Lent s (later t y) × Keeps t s (later t y)
   unfolding Lent Keeps accepted
-  later-so s b k (Later.set c v) = (own-lists s (Op.set c v), λ e. tt)
-  later-so s b k (Later.setLent c v) = (own-lists s (Op.setLent c v), λ e. tt)
-  later-so s b k (Later.fill c d v) = (own-lists s (Op.fill c d v), λ e. tt)
-  later-so s b k (Later.refresh m) = (own-lists s (Op.refresh t m), λ e. refl)
-  later-so s b k Later.totals = (own-lists s Op.totals, λ e. tt)
-  later-so s b k (Later.reads r) = (own-lists s (Op.reads r), λ e. tt)
+  later-so s b k (Later.set c v) = (own-lent s (Op.set c v), λ e. tt)
+  later-so s b k (Later.setLent c v) = (own-lent s (Op.setLent c v), λ e. tt)
+  later-so s b k (Later.fill c d v) = (own-lent s (Op.fill c d v), λ e. tt)
+  later-so s b k (Later.refresh m) = (own-lent s (Op.refresh t m), λ e. refl)
+  later-so s b k Later.totals = (own-lent s Op.totals, λ e. tt)
+  later-so s b k (Later.reads r) = (own-lent s (Op.reads r), λ e. tt)
   later-so s b k (Later.lentNone o) = none-so s b k t o (effectOf o)
 
   pub later-all : (s : Four) (b : Book) → Tells (s .state) b → (ys : List Later) → All Lent s (map (later t) ys) × All (Keeps t) s (map (later t) ys)
@@ -140,7 +148,7 @@ module _ (t : Terms) where
   unfolding All Keeps
   sets-all s [] v = (tt, tt)
   sets-all s (c ∷ cs) v =
-      let r = sets-all (step s (own (Op.set c v))) cs v in ((own-lists s (Op.set c v), r .0), (λ e. tt, r .1))
+      let r = sets-all (step s (own (Op.set c v))) cs v in ((own-lent s (Op.set c v), r .0), (λ e. tt, r .1))
 
 -- they leave the marks
 pub sets-marks : (s : Four) (cs : List Cell) (v : ℕ) → run s (sets cs v) .marks ≡ s .marks

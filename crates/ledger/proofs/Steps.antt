@@ -1,4 +1,4 @@
--- The steps of the calls, by unfolding; a call turned back, or that writes none of the four, leaves them.
+-- The steps of the calls, by unfolding; a call refused, or that writes none of the four, leaves them.
 use Prim.Native.Nat.{ℕ, zero, suc}
 use mathlib.Core.Path.{_≡_, refl, sym, subst}
 use mathlib.Core.Bool.{true, false, true≢false}
@@ -11,15 +11,17 @@ use Rattle.stand.specs.Opening.{openRefusal, openedShape}
 use Rattle.stand.specs.Shape.{Shape, wellFormed}
 use Rattle.stand.specs.Storage.{Outcome, State, Storage, joined, lengthsOf, shape, storage}
 use Rattle.stand.proofs.Edit.{by-edited}
+use Rattle.stand.proofs.Tests.{by-test}
 use Rattle.sheet.specs.Calls as S
 use Rattle.sheet.specs.Calls.{every}
 use Rattle.sheet.specs.Card.{Terms}
 use Rattle.sheet.specs.Due.{todo}
 use Rattle.ledger.specs.Book.{Edit}
 use Rattle.ledger.specs.Calls as C
-use Rattle.ledger.specs.Calls.{Effect, Four, Op, accepted, call, editCall, edited, effectOf, given, leftBy, orElse, ownAfter, result, sheeted, step}
+use Rattle.ledger.specs.Calls.{Effect, Four, Op, accepted, call, editCall, edited, effectOf, given, leftBy, orElse, ownAfter, result, sheeted, step, unfit}
 use Rattle.ledger.specs.Steps.{Steps}
 use Rattle.ledger.proofs.Accepted.{by-measuring}
+use Rattle.ledger.proofs.Following.{unfit-refused}
 use Rattle.ledger.proofs.Kept.{stepBy}
 
 -- ---- the four kept, whatever a call was lent
@@ -38,7 +40,7 @@ stays s none (some x) = refl
 stays s (some x) none = refl
 stays s (some x) (some y) = refl
 
--- ---- a call turned back
+-- ---- a call refused
 
 module _ (s : Four) (st : Option Storage) (l : Option (List ℕ)) (o : Op) where
   abbrev lent : State
@@ -92,6 +94,12 @@ module _ (s : Four) (st : Option Storage) (l : Option (List ℕ)) (o : Op) where
   unfolding given result leftBy
   left-all = stays s st l
 
+  unfit-left : (e : Effect) → unfit (given s (call st l o)) e ≡ true → stepBy s (call st l o) e ≡ s
+  unfit-left e u =
+      by-test (result (given s (call st l o)) e .accepted)
+      (λ a. subst (λ (x : Effect). stepBy s (call st l o) x ≡ s) (sym (unfit-refused (given s (call st l o)) e u a)) left-all)
+      (refused-left e)
+
 -- ---- together
 
 pub steps : (s : Four) → Steps s
@@ -106,4 +114,5 @@ steps s =
       refresh = λ t m. record { is-accepted = refl; four = refl };
       leaves = λ c e. subst (λ (x : Effect). stepBy s c x ≡ s) (sym e) (left-all s (c .storage) (c .sheet) (c .op));
       refused-leaves = λ c e. refused-left s (c .storage) (c .sheet) (c .op) (effectOf (c .op)) e;
+      unfit-leaves = λ c u. unfit-left s (c .storage) (c .sheet) (c .op) (effectOf (c .op)) u;
     }

@@ -1,4 +1,4 @@
--- How wide the claim is: whatever the four hold and for every kind of call there are lists that meet its premises.
+-- How wide the claim is: whatever the four hold, every kind of call may stand in a list that meets its premises.
 use Prim.Native.Nat.{ℕ, _*_, _≤_, _<_}
 use mathlib.Core.Path.{_≡_}
 use mathlib.Core.Bool.{true, false}
@@ -12,14 +12,30 @@ use Rattle.stand.specs.declared.Cell.{Cell}
 use Rattle.stand.specs.declared.volume.Extent.{Extent}
 use Rattle.mesh.specs.Cover.{Each}
 use Rattle.mesh.specs.Near.{near}
-use Rattle.sheet.specs.Card.{Terms, limit}
+use Rattle.sheet.specs.Card.{Terms, limit, payable}
 use Rattle.sheet.specs.declared.Marks.{Marks}
-use Rattle.ledger.specs.Book.{openBook}
-use Rattle.ledger.specs.Calls.{Call, Four, Op, Origin, accepted, call, effectOf, given, orElse, own, unfit}
+use Rattle.ledger.specs.Book.{Edit, openBook}
+use Rattle.ledger.specs.Calls.{Call, Effect, Four, Op, Origin, accepted, call, effectOf, given, orElse, own, unfit}
 use Rattle.ledger.specs.Claim.{All, Keeps, Lent, Priced, Spared, Start, bookAfter, fourAfter}
 use Rattle.ledger.specs.Reading.{Reading}
 
--- the calls that the claim allows since the sheet was opened, whatever the four hold
+-- ---- starts
+
+-- the claim's lists start from these four by this call
+pub record Starts (s : Four) (c : Call) : Type 0 where
+  pub start : Start
+  pub four-is : start .four ≡ s
+  pub first-is : start .first ≡ c
+
+-- they reach a stand just opened, with these marks and this sheet
+pub record Reaches (g : Shape) (k : Marks) (l : List ℕ) : Type 0 where
+  pub start : Start
+  pub four-is : fourAfter start [] ≡ record { state = freshState g; marks = k; sheet = l }
+  pub book-is : bookAfter start [] ≡ openBook g
+
+-- ---- since the sheet was opened
+
+-- the calls that the claim allows, whatever the four hold
 pub data Later : Type 0 where
   set : Cell → ℕ → Later
   setLent : Cell → ℕ → Later
@@ -40,40 +56,51 @@ later t Later.totals = own Op.totals
 later t (Later.reads r) = own (Op.reads r)
 later t (Later.lentNone o) = call (some (storageOf [] [] [] [] [])) (some []) o
 
--- the claim's lists start from these four by this call
-pub record Starts (s : Four) (c : Call) : Type 0 where
-  pub start : Start
-  pub four-is : start .four ≡ s
-  pub first-is : start .first ≡ c
+abbrev pub sets : List Cell → ℕ → List Call
+sets cs v = map (λ c. own (Op.set c v)) cs
 
--- they reach a stand just opened, with these marks and this sheet
-pub record Reaches (g : Shape) (k : Marks) (l : List ℕ) : Type 0 where
-  pub start : Start
-  pub four-is : fourAfter start [] ≡ record { state = freshState g; marks = k; sheet = l }
-  pub book-is : bookAfter start [] ≡ openBook g
+-- ---- cards
 
--- a list goes on: the sheet is opened, these calls follow, and it is refreshed; the first sentence speaks of it
-pub record GoesOn (a : Start) (xs : List Call) (ys : List Later) : Type 0 where
-  pub terms : Terms
-  pub opening : Call
-  pub last : Call
-  pub priced : Priced a xs opening (map (later terms) ys) last terms
+-- the finish that a call brings has a rate within its limit
+abbrev pub Pays : List ℕ → Effect → Type 0
+Pays rates (Effect.opensStand o size) = Unit {0}
+Pays rates (Effect.edits (Edit.one c v)) = payable rates v ≡ true
+Pays rates (Effect.edits (Edit.box c d v)) = payable rates v ≡ true
+Pays rates (Effect.opensSheet t m) = Unit {0}
+Pays rates (Effect.refreshes t m) = Unit {0}
+Pays rates Effect.leaves = Unit {0}
 
--- and the second sentence: the sheet is opened, these cells are set, and it is refreshed
-pub record Spares (a : Start) (xs : List Call) (cs : List Cell) (v : ℕ) : Type 0 where
-  pub opening : Call
-  pub last : Call
-  -- each row beside none of them, if they are no more than the sections
-  pub spared : (i : ℕ) → i < sections (bookAfter a xs .shape) → length cs ≤ sections (bookAfter a xs .shape)
+abbrev pub AllPay : List ℕ → List Call → Type 0
+AllPay rates cs = Each (λ c. Pays rates (effectOf (c .op))) cs
+
+-- rates that price a list and the calls that follow
+pub record Priceable (xs : List Call) (ys : List Later) : Type 0 where
+  pub rates : List ℕ
+  pub before : AllPay rates xs
+  pub since : (t : Terms) → AllPay rates (map (later t) ys)
+
+-- ---- how a list goes on
+
+-- the sheet is opened on another list
+abbrev pub opening : Terms → List ℕ → List ℕ → Call
+opening t l m = call none (some l) (Op.openSheet t m)
+
+-- by a card that prices the list, under either outside rule, on a sheet and a mask with any contents
+pub record Sheet (a : Start) (xs : List Call) (t : Terms) (l m : List ℕ) : Type 0 where
+  pub lent : All Lent (fourAfter a []) xs
+  pub pays : AllPay (t .rates) xs
+  pub cut : t .cut ≤ limit
+  pub sheet : length l ≡ sections (bookAfter a xs .shape) * 3
+  pub mask : 256 ≤ length m
+
+-- then these calls may follow, and it is refreshed
+pub record Wide (a : Start) (xs : List Call) (t : Terms) (l m : List ℕ) : Type 0 where
+  -- the first sentence speaks of it
+  pub since : (ys : List Later) → AllPay (t .rates) (map (later t) ys) → Priced a xs (opening t l m) (map (later t) ys) (own (Op.refresh t m)) t
+  -- and the second: cells are set, no more than there are sections, and each row beside none of them is spared
+  pub rows : (cs : List Cell) (v i : ℕ) → payable (t .rates) v ≡ true → i < sections (bookAfter a xs .shape) → length cs ≤ sections (bookAfter a xs .shape)
       → Each (λ c. near (counted (bookAfter a xs .shape)) (chunkOf (bookAfter a xs .shape) c) i ≡ false) cs
-      → Spared a (xs ++ (opening ∷ map (λ c. own (Op.set c v)) cs)) last i
-
--- how a list xs may go on
-pub record Wide (a : Start) (xs : List Call) : Type 0 where
-  -- by any call with any arguments before the sheet is opened
-  pub before : (o : Op) → GoesOn a (xs ++ (own o ∷ [])) []
-  pub since : (ys : List Later) → GoesOn a xs ys
-  pub rows : (cs : List Cell) (v : ℕ) → Spares a xs cs v
+      → Spared a (xs ++ (opening t l m ∷ sets cs v)) (own (Op.refresh t m)) i
 
 -- a list in which a stand of one section, its sheet opened, grows to two, on other storage and with a longer sheet
 pub record Grows : Type 0 where
@@ -88,30 +115,34 @@ pub record Grows : Type 0 where
   pub opened : accepted (fourAfter start []) (own (Op.openSheet terms mask)) ≡ true
   pub two : sections (bookAfter start (own (Op.openSheet terms mask) ∷ call (some other) none (Op.openStand origin size) ∷ []) .shape) ≡ 2
   pub priced : Priced start (own (Op.openSheet terms mask) ∷ call (some other) none (Op.openStand origin size) ∷ [])
-      (call none (some longer) (Op.openSheet terms mask)) [] (own (Op.refresh terms mask)) terms
+      (opening terms longer mask) [] (own (Op.refresh terms mask)) terms
 
 pub record Breadth : Type 0 where
   -- ---- on any four
 
-  -- every opening that nothing turns back starts a list
+  -- every opening that nothing refuses starts a list
   pub starts : (s : Four) (st : Option Storage) (l : Option (List ℕ)) (o : Origin) (size : Extent)
       → openRefusal (openedShape (o .cell) size) (lengthsOf (orElse st (storage (s .state)))) ≡ 0 → Starts s (call st l (Op.openStand o size))
   -- so document 01's start is one: a stand just opened, sheet and marks holding anything
   pub fresh : (g : Shape) (k : Marks) (l : List ℕ) → opens g ≡ true → Ranged (g .origin) → Reaches g k l
-  -- every call may be lent the four's own lists, or lists that 4 refuses; the latter since any opening of the sheet
-  pub own-lists : (s : Four) (o : Op) → Lent s (own o)
+  -- any calls with any arguments, each lent the four's own lists, make a list
+  pub own-lists : (s : Four) (os : List Op) → All Lent s (map own os)
+  -- any call may be lent lists that 4 refuses, since any opening of the sheet too
   pub refused-by-4 : (s : Four) (c : Call) → unfit (given s c) (effectOf (c .op)) ≡ true → Lent s c × ((t : Terms) → Keeps t s c)
   -- stand and sheet may be opened on other lists
   pub stand-anew : (s : Four) (st : Storage) (o : Origin) (size : Extent) → Lent s (call (some st) none (Op.openStand o size))
-  pub sheet-anew : (s : Four) (l : List ℕ) (t : Terms) (m : List ℕ) → Lent s (call none (some l) (Op.openSheet t m))
-
+  pub sheet-anew : (s : Four) (l : List ℕ) (t : Terms) (m : List ℕ) → Lent s (opening t l m)
+  -- a call that writes none of the four may be lent any lists
+  pub leaves-any : (s : Four) (c : Call) → effectOf (c .op) ≡ Effect.leaves → Lent s c
   -- ---- lists
 
-  -- every list of calls lent so goes on in all these ways
-  pub wide : (a : Start) (xs : List Call) → All Lent (fourAfter a []) xs → Wide a xs
-  -- the stand opened anew on any other storage that fits, and the sheet on any other one that does
+  -- every list goes on in all these ways
+  pub wide : (a : Start) (xs : List Call) (t : Terms) (l m : List ℕ) → Sheet a xs t l m → Wide a xs t l m
+  -- and some card prices it
+  pub priceable : (xs : List Call) (ys : List Later) → Priceable xs ys
+  -- the stand opened anew on any other storage that fits, and the sheet on any other one that does: whatever came before, any card will do
   pub anew : (a : Start) (xs : List Call) → All Lent (fourAfter a []) xs → (o : Origin) (size : Extent) (st : Storage) (l m : List ℕ) (t : Terms)
       → openRefusal (openedShape (o .cell) size) (lengthsOf st) ≡ 0 → length l ≡ sections (openedShape (o .cell) size) * 3
       → 256 ≤ length m → t .cut ≤ limit
-      → Priced a (xs ++ (call (some st) none (Op.openStand o size) ∷ [])) (call none (some l) (Op.openSheet t m)) [] (own (Op.refresh t m)) t
+      → Priced a (xs ++ (call (some st) none (Op.openStand o size) ∷ [])) (opening t l m) [] (own (Op.refresh t m)) t
   pub grows : Grows

@@ -1,7 +1,7 @@
--- Each call's step is the outcome that its contract cites; a call that writes none of the four, or is turned back, leaves them.
+-- Each call's step is the outcome that its contract cites; a call that writes none of the four, or is refused, leaves them.
 use Prim.Native.Nat.{ℕ}
 use mathlib.Core.Path.{_≡_}
-use mathlib.Core.Bool.{Bool, false}
+use mathlib.Core.Bool.{Bool, true, false}
 use mathlib.Core.List.{List}
 use Rattle.stand.specs.Edit.{setCall}
 use Rattle.stand.specs.Fill.{fillCall}
@@ -12,7 +12,7 @@ use Rattle.stand.specs.declared.volume.Extent.{Extent}
 use Rattle.sheet.specs.Calls as S
 use Rattle.sheet.specs.Card.{Terms}
 use Rattle.sheet.specs.declared.Marks.{Marks}
-use Rattle.ledger.specs.Calls.{Call, Effect, Four, Op, Origin, accepted, effectOf, headerAfter, isDone, isGiven, own, step}
+use Rattle.ledger.specs.Calls.{Call, Effect, Four, Op, Origin, accepted, effectOf, given, headerAfter, isDone, isGiven, own, step, unfit}
 
 -- a call lent the four's own lists: whether it is accepted, and the four after it
 pub record Done (s : Four) (o : Op) (a : Bool) (st : State) (k : Marks) (l : List ℕ) : Type 0 where
@@ -39,3 +39,5 @@ pub record Steps (s : Four) : Type 0 where
   -- totals and every read
   pub leaves : (c : Call) → effectOf (c .op) ≡ Effect.leaves → step s c ≡ s
   pub refused-leaves : (c : Call) → accepted s c ≡ false → step s c ≡ s
+  -- a call lent lists of a length that 4 refuses
+  pub unfit-leaves : (c : Call) → unfit (given s c) (effectOf (c .op)) ≡ true → step s c ≡ s
