@@ -10,13 +10,10 @@ pub mod Openings
 pub mod Payable
 pub mod Prefix
 pub mod Pricing
-pub mod Printing
 pub mod Quoted
 pub mod Ranges
 pub mod Rated
 pub mod Refreshing
-pub mod Replies
 pub mod Sample
 pub mod Saying
-pub mod Scripted
 pub mod Standing

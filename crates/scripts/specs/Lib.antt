@@ -1,5 +1,4 @@
 -- The definitions of `scripts`.
-pub mod Bytes
 pub mod Page
 pub mod Quotes
 pub mod Said

@@ -1,6 +1,6 @@
 -- What a script's calls say by their arguments alone: document 01's book of the stand, and the card. Document 01, 'Trial program' and 'The book behind the sums'.
 use Prim.Native.Nat.{ℕ, zero, suc, _-_}
-use mathlib.Core.Bool.{true, cond, not, _&&_}
+use mathlib.Core.Bool.{Bool, true, cond, not, _&&_}
 use mathlib.Core.List.{List, [], _∷_, _++_}
 use mathlib.Core.Option.{Option, none, some}
 use lib.Dec.{eqb, leb, ltb}
@@ -57,9 +57,12 @@ fillOn c d v b = unless (fillNumber c d b) b (setAll b (boxCells (b .shape) (box
 abbrev pub withBook : Page → Option Book → Page
 withBook p b = record { book = b; rates = p .rates; cut = p .cut }
 
--- 12 for a finish outside 1 to 63
+-- finishes 1 to 63 have a rate, others are 12
+abbrev pub hasRate : ℕ → Bool
+hasRate f = leb 1 f && leb f 63
+
 unfoldable pub rateNumber : ℕ → ℕ
-rateNumber f = first ((not (leb 1 f && leb f 63) ⇒ 12) ∷ [])
+rateNumber f = first ((not (hasRate f) ⇒ 12) ∷ [])
 
 -- a call written down; one turned back changes nothing, nor does a refresh
 unfoldable pub write : Page → Call → Page
@@ -67,7 +70,7 @@ write p (K.Open o size) = withBook p (opened (openNumber (openedShape o size)) (
 write p (K.Set c v) = withBook p (onBook (setOn c v) (p .book))
 write p (K.Fill c d v) = withBook p (onBook (fillOn c d v) (p .book))
 write p K.Refresh = p
-write p (K.Rate f r) = record { book = p .book; rates = cond (leb 1 f && leb f 63) (set (p .rates) f r) (p .rates); cut = p .cut }
+write p (K.Rate f r) = record { book = p .book; rates = cond (hasRate f) (set (p .rates) f r) (p .rates); cut = p .cut }
 write p (K.Cut c) = record { book = p .book; rates = p .rates; cut = c }
 
 unfoldable pub pageOf : Page → List Call → Page

@@ -1,6 +1,6 @@
 -- What a script prints, by its calls alone: document 01, 'Trial program', 'The book behind the sums' and 'Calls turned back'.
--- Of the program nothing is read but how bytes make calls and how a reply is written: no header, storage, mark, sheet or mask.
-use Prim.Native.Nat.{ℕ, zero, suc}
+-- Of the program nothing is read but how bytes make calls, how a reply is written and where a script stops: no header, storage, mark, sheet or mask.
+use Prim.Native.Nat.{ℕ, zero, suc, _<_}
 use mathlib.Core.Bool.{Bool, not, _||_}
 use mathlib.Core.List.{List, [], _∷_, _++_}
 use mathlib.Core.Option.{Option, none, some}
@@ -15,7 +15,8 @@ use Rattle.sheet.specs.Row.{priced}
 use Rattle.ledger.specs.Book.{Book}
 use Rattle.ledger.specs.Claim.{bookSums}
 use Rattle.interpreter.specs.Decode.{decodeOf, lengthOf}
-use Rattle.interpreter.specs.Line.{brokenText, lineOf}
+use Rattle.interpreter.specs.Line.{lineOf}
+use Rattle.interpreter.specs.Script.{unlessBroken}
 use Rattle.interpreter.specs.declared.Call.{Call}
 use Rattle.interpreter.specs.declared.Call.the-variants as K
 use Rattle.interpreter.specs.declared.Reply.{Reply}
@@ -55,17 +56,30 @@ replyTo p (K.Cut c) = R.Quiet
 
 -- ---- all of them
 
--- an unknown kind or a short body: `broken`, and no more
-abbrev pub spoken : Decoded → (Call → List ℕ) → List ℕ
-spoken (D.Is call) say = say call
-spoken D.Broken say = brokenText
+-- a script: numbers of a byte
+unfoldable pub Bytes : List ℕ → Type 0
+Bytes [] = Unit {0}
+Bytes (x ∷ b) = (x < 256) × Bytes b
+
+-- an unknown kind or a short body is `broken`, and nothing is written down
+abbrev pub replyRead : Page → Decoded → Reply
+replyRead p (D.Is call) = replyTo p call
+replyRead p D.Broken = R.Broken
+
+abbrev pub writeRead : Page → Decoded → Page
+writeRead p (D.Is call) = write p call
+writeRead p D.Broken = p
+
+-- a line, and those of the calls after it, unless the script stops there
+abbrev pub saidThen : Reply → List ℕ → List ℕ
+saidThen r later = lineOf r ++ unlessBroken r later
 
 -- n calls at most
 unfoldable pub saidTo : ℕ → Page → List ℕ → List ℕ
 saidTo zero p b = []
 saidTo (suc n) p [] = []
 saidTo (suc n) p (kind ∷ b) =
-    spoken (decodeOf (kind ∷ b)) (λ call. lineOf (replyTo p call) ++ saidTo n (write p call) (drop (lengthOf kind) (kind ∷ b)))
+    saidThen (replyRead p (decodeOf (kind ∷ b))) (saidTo n (writeRead p (decodeOf (kind ∷ b))) (drop (lengthOf kind) (kind ∷ b)))
 
 -- a call has at least one byte, so that there are no more calls than bytes
 unfoldable pub said : List ℕ → List ℕ
