@@ -57,16 +57,16 @@ module _ (a : Start) (xs : List Call) (w : All Lent (fourAfter a []) xs) (o : Or
   paid-none t b p c i = ap (λ (b : Book). payable (t .rates) (b .look c)) p
 
   -- opening the sheet writes nothing into the book
-  same-book : (l m : List ℕ) (t : Terms) → bookAfter a (more ++ (opening t l m ∷ [])) ≡ bookAfter a more
+  same-book : (l m : List ℕ) (t : Terms) → bookAfter a (more ++ (opening t (some l) m ∷ [])) ≡ bookAfter a more
   unfolding book feed write
-  same-book l m t = written-append a more (opening t l m ∷ [])
+  same-book l m t = written-append a more (opening t (some l) m ∷ [])
 
-  anew : (l m : List ℕ) (t : Terms) → length l ≡ sections (openedShape (o .cell) size) * 3 → 256 ≤ length m → t .cut ≤ limit
-      → Priced a more (opening t l m) [] (own (Op.refresh t m)) t
+  anew : (l m m′ : List ℕ) (t : Terms) → length l ≡ sections (openedShape (o .cell) size) * 3 → 256 ≤ length m → 256 ≤ length m′ → t .cut ≤ limit
+      → Priced a more (opening t (some l) m) [] (own (Op.refresh t m′)) t
   unfolding All openBook
-  anew l m t len room cut =
-      priced-so a more lent-anew t m l room cut (len ∙ ap (λ (b : Book). sections (b .shape) * 3) (sym book-anew)) (paid-none t (bookAfter a more) book-anew) [] tt tt
-      (paid-none t (bookAfter a (more ++ (opening t l m ∷ []))) (same-book l m t ∙ book-anew))
+  anew l m m′ t len room room′ cut =
+      priced-so a more lent-anew t (some l) m m′ room room′ cut (len ∙ ap (λ (b : Book). sections (b .shape) * 3) (sym book-anew)) (paid-none t (bookAfter a more) book-anew) [] tt tt
+      (paid-none t (bookAfter a (more ++ (opening t (some l) m ∷ []))) (same-book l m t ∙ book-anew))
 
 -- ---- from one cell to 17
 
@@ -154,8 +154,8 @@ grown =
       one = one-section;
       opened = first-opened;
       two = ap (λ (b : Book). sections (b .shape)) (book-anew small sheetFirst first-lent corner row (freshStorage 2) opens-two) ∙ two-sections;
-      priced = anew small sheetFirst first-lent corner row (freshStorage 2) opens-two (replicate 6 0) slots (free)
-          (ap (λ (n : ℕ). n * 3) (sym two-sections)) (omega arith) (omega arith);
+      priced = anew small sheetFirst first-lent corner row (freshStorage 2) opens-two (replicate 6 0) slots slots (free)
+          (ap (λ (n : ℕ). n * 3) (sym two-sections)) (omega arith) (omega arith) (omega arith);
     }
 
 pub breadth : Breadth
@@ -171,6 +171,6 @@ breadth =
       leaves-any = λ s c e. subst (LentBy s c) (sym e) tt;
       wide = wide;
       priceable = priceable;
-      anew = λ a xs w o size st l m t e. anew a xs w o size st e l m t;
+      anew = λ a xs w o size st l m m′ t e. anew a xs w o size st e l m m′ t;
       grows = grown;
     }

@@ -2,7 +2,7 @@
 use mathlib.Core.Path.{_≡_, refl, sym, ap, _∙_, subst}
 use mathlib.Core.Bool.{true}
 use mathlib.Core.List.{List, [], _∷_, _++_, map}
-use mathlib.Core.Option.{none, some}
+use mathlib.Core.Option.{Option}
 use Prim.Native.Nat.{ℕ, _+_, _*_, _≤_, _<_}
 use native.Mathlib.Omega.{arith}
 use lib.ListN.{length, length-replicate, replicate}
@@ -14,7 +14,7 @@ use Rattle.sheet.specs.Card.{Terms, limit, payable}
 use Rattle.sheet.specs.declared.Marks.{Marks}
 use Rattle.ledger.specs.Book.{openBook}
 use Rattle.ledger.specs.Breadth.{AllPay, Later, Sheet, Wide, later, opening, sets}
-use Rattle.ledger.specs.Calls.{Call, Four, Op, accepted, book, call, feed, own, run, step, write}
+use Rattle.ledger.specs.Calls.{Call, Four, Op, accepted, book, feed, orElse, own, run, step, write}
 use Rattle.ledger.specs.Claim.{All, Keeps, Lent, Priced, Spared, Start, bookAfter, fourAfter}
 use Rattle.ledger.proofs.Claimed.{after-append, append-all, shows-later, tells-after, written-append}
 use Rattle.ledger.proofs.Enough.{Paid, open-accepted, refresh-accepted}
@@ -27,20 +27,20 @@ use Rattle.ledger.proofs.Finishes.{AllRated, book-rated, open-rated}
 
 -- ---- a sheet opened on another list, calls that keep to its terms, and a refresh
 
-module _ (a : Start) (xs : List Call) (w : All Lent (fourAfter a []) xs) (t : Terms) (m l : List ℕ)
-    (room : 256 ≤ length m) (cut : t .cut ≤ limit) (len : length l ≡ sections (bookAfter a xs .shape) * 3)
+module _ (a : Start) (xs : List Call) (w : All Lent (fourAfter a []) xs) (t : Terms) (l : Option (List ℕ)) (m m′ : List ℕ)
+    (room : 256 ≤ length m) (room′ : 256 ≤ length m′) (cut : t .cut ≤ limit) (len : length (orElse l (fourAfter a xs .sheet)) ≡ sections (bookAfter a xs .shape) * 3)
     (paid : Paid t (bookAfter a xs .shape) (bookAfter a xs .look)) where
   abbrev sheetOpening : Call
   sheetOpening = opening t l m
 
   abbrev last : Call
-  last = own (Op.refresh t m)
+  last = own (Op.refresh t m′)
 
   abbrev mid : Four
   mid = step (fourAfter a xs) sheetOpening
 
   opening-accepted : accepted (fourAfter a xs) sheetOpening ≡ true
-  opening-accepted = open-accepted (fourAfter a xs) (bookAfter a xs) (tells-after a xs w) t m (record { mask = room; cut = cut; paid = paid }) (some l) len
+  opening-accepted = open-accepted (fourAfter a xs) (bookAfter a xs) (tells-after a xs w) t m (record { mask = room; cut = cut; paid = paid }) l len
 
   opening-lent : Lent (fourAfter a xs) sheetOpening
   unfolding Lent
@@ -62,11 +62,11 @@ module _ (a : Start) (xs : List Call) (w : All Lent (fourAfter a []) xs) (t : Te
       refreshed : accepted (fourAfter a calls) last ≡ true
       refreshed =
           let h = shows-later a t m xs sheetOpening ys all-lent refl opening-accepted all-keeps in
-          refresh-accepted (fourAfter a calls) (bookAfter a calls) (tells-after a calls all-lent) t m (record { mask = room; cut = cut; paid = after }) (h .length-is) (h .mark-le)
+          refresh-accepted (fourAfter a calls) (bookAfter a calls) (tells-after a calls all-lent) t m′ (record { mask = room′; cut = cut; paid = after }) (h .length-is) (h .mark-le)
 
       last-lent : All Lent (fourAfter a calls) (last ∷ [])
       unfolding All
-      last-lent = (own-lent (fourAfter a calls) (Op.refresh t m), tt)
+      last-lent = (own-lent (fourAfter a calls) (Op.refresh t m′), tt)
 
       lent-too : All Lent (fourAfter a []) (calls ++ (last ∷ []))
       unfolding fourAfter run
@@ -80,7 +80,7 @@ module _ (a : Start) (xs : List Call) (w : All Lent (fourAfter a []) xs) (t : Te
             opens = refl;
             opened = opening-accepted;
             keeps = all-keeps;
-            lastMask = m;
+            lastMask = m′;
             refreshes = refl;
             refreshed = refreshed;
           }
@@ -117,7 +117,7 @@ module _ (a : Start) (xs : List Call) (w : All Lent (fourAfter a []) xs) (t : Te
         record {
           lent = lent-too (sets cs v) (q .0) (q .1) after;
           terms = t;
-          mask = m;
+          mask = m′;
           refreshes = refl;
           refreshed = refreshed (sets cs v) (q .0) (q .1) after;
           within = omega arith;
@@ -127,7 +127,7 @@ module _ (a : Start) (xs : List Call) (w : All Lent (fourAfter a []) xs) (t : Te
 
 -- ---- how a list may go on
 
-module _ (a : Start) (xs : List Call) (t : Terms) (l m : List ℕ) (h : Sheet a xs t l m) where
+module _ (a : Start) (xs : List Call) (t : Terms) (l : Option (List ℕ)) (m m′ : List ℕ) (h : Sheet a xs t l m m′) where
   rated : AllRated (t .rates) (bookAfter a xs)
   unfolding bookAfter
   rated =
@@ -149,18 +149,18 @@ module _ (a : Start) (xs : List Call) (t : Terms) (l m : List ℕ) (h : Sheet a 
   unfolding write Lent
   there-tells = tells-step (fourAfter a xs) (bookAfter a xs) (opening t l m) tt (tells-after a xs (h .lent))
 
-  since : (ys : List Later) → AllPay (t .rates) (map (later t) ys) → Priced a xs (opening t l m) (map (later t) ys) (own (Op.refresh t m)) t
+  since : (ys : List Later) → AllPay (t .rates) (map (later t) ys) → Priced a xs (opening t l m) (map (later t) ys) (own (Op.refresh t m′)) t
   since ys p =
       let q = later-all t there (bookAfter a xs) there-tells ys in
-      priced-so a xs (h .lent) t m l (h .mask) (h .cut) (h .sheet) paid (map (later t) ys) (q .0) (q .1) (paid-after (map (later t) ys) p)
+      priced-so a xs (h .lent) t l m m′ (h .mask) (h .lastMask) (h .cut) (h .sheet) paid (map (later t) ys) (q .0) (q .1) (paid-after (map (later t) ys) p)
 
   sets-pay : (cs : List Cell) (v : ℕ) → payable (t .rates) v ≡ true → AllPay (t .rates) (sets cs v)
   sets-pay [] v p = tt
   sets-pay (c ∷ cs) v p = (p, sets-pay cs v p)
 
-  pub wide : Wide a xs t l m
+  pub wide : Wide a xs t l m m′
   wide =
       record {
         since = since;
-        rows = λ cs v i p. spared-so a xs (h .lent) t m l (h .mask) (h .cut) (h .sheet) paid cs v (paid-after (sets cs v) (sets-pay cs v p)) i;
+        rows = λ cs v i p. spared-so a xs (h .lent) t l m m′ (h .mask) (h .lastMask) (h .cut) (h .sheet) paid cs v (paid-after (sets cs v) (sets-pay cs v p)) i;
       }

@@ -81,26 +81,27 @@ pub record Priceable (xs : List Call) (ys : List Later) : Type 0 where
 
 -- ---- how a list goes on
 
--- the sheet is opened on another list
-abbrev pub opening : Terms → List ℕ → List ℕ → Call
-opening t l m = call none (some l) (Op.openSheet t m)
+-- the sheet is opened, on the four's own list or on another
+abbrev pub opening : Terms → Option (List ℕ) → List ℕ → Call
+opening t l m = call none l (Op.openSheet t m)
 
--- by a card that prices the list, under either outside rule, on a sheet and a mask with any contents
-pub record Sheet (a : Start) (xs : List Call) (t : Terms) (l m : List ℕ) : Type 0 where
+-- by a card that prices the list xs, under either outside rule, on a sheet with any contents; m and m′ are the masks of opening and refresh
+pub record Sheet (a : Start) (xs : List Call) (t : Terms) (l : Option (List ℕ)) (m m′ : List ℕ) : Type 0 where
   pub lent : All Lent (fourAfter a []) xs
   pub pays : AllPay (t .rates) xs
   pub cut : t .cut ≤ limit
-  pub sheet : length l ≡ sections (bookAfter a xs .shape) * 3
+  pub sheet : length (orElse l (fourAfter a xs .sheet)) ≡ sections (bookAfter a xs .shape) * 3
   pub mask : 256 ≤ length m
+  pub lastMask : 256 ≤ length m′
 
 -- then these calls may follow, and it is refreshed
-pub record Wide (a : Start) (xs : List Call) (t : Terms) (l m : List ℕ) : Type 0 where
+pub record Wide (a : Start) (xs : List Call) (t : Terms) (l : Option (List ℕ)) (m m′ : List ℕ) : Type 0 where
   -- the first sentence speaks of it
-  pub since : (ys : List Later) → AllPay (t .rates) (map (later t) ys) → Priced a xs (opening t l m) (map (later t) ys) (own (Op.refresh t m)) t
+  pub since : (ys : List Later) → AllPay (t .rates) (map (later t) ys) → Priced a xs (opening t l m) (map (later t) ys) (own (Op.refresh t m′)) t
   -- and the second: cells are set, no more than there are sections, and each row beside none of them is spared
   pub rows : (cs : List Cell) (v i : ℕ) → payable (t .rates) v ≡ true → i < sections (bookAfter a xs .shape) → length cs ≤ sections (bookAfter a xs .shape)
       → Each (λ c. near (counted (bookAfter a xs .shape)) (chunkOf (bookAfter a xs .shape) c) i ≡ false) cs
-      → Spared a (xs ++ (opening t l m ∷ sets cs v)) (own (Op.refresh t m)) i
+      → Spared a (xs ++ (opening t l m ∷ sets cs v)) (own (Op.refresh t m′)) i
 
 -- a list in which a stand of one section, its sheet opened, grows to two, on other storage and with a longer sheet
 pub record Grows : Type 0 where
@@ -115,7 +116,7 @@ pub record Grows : Type 0 where
   pub opened : accepted (fourAfter start []) (own (Op.openSheet terms mask)) ≡ true
   pub two : sections (bookAfter start (own (Op.openSheet terms mask) ∷ call (some other) none (Op.openStand origin size) ∷ []) .shape) ≡ 2
   pub priced : Priced start (own (Op.openSheet terms mask) ∷ call (some other) none (Op.openStand origin size) ∷ [])
-      (opening terms longer mask) [] (own (Op.refresh terms mask)) terms
+      (opening terms (some longer) mask) [] (own (Op.refresh terms mask)) terms
 
 pub record Breadth : Type 0 where
   -- ---- on any four
@@ -129,20 +130,20 @@ pub record Breadth : Type 0 where
   pub own-lists : (s : Four) (os : List Op) → All Lent s (map own os)
   -- any call may be lent lists that 4 refuses, since any opening of the sheet too
   pub refused-by-4 : (s : Four) (c : Call) → unfit (given s c) (effectOf (c .op)) ≡ true → Lent s c × ((t : Terms) → Keeps t s c)
-  -- stand and sheet may be opened on other lists
+  -- stand and sheet may be opened on any lists
   pub stand-anew : (s : Four) (st : Storage) (o : Origin) (size : Extent) → Lent s (call (some st) none (Op.openStand o size))
-  pub sheet-anew : (s : Four) (l : List ℕ) (t : Terms) (m : List ℕ) → Lent s (opening t l m)
+  pub sheet-anew : (s : Four) (l : Option (List ℕ)) (t : Terms) (m : List ℕ) → Lent s (opening t l m)
   -- a call that writes none of the four may be lent any lists
   pub leaves-any : (s : Four) (c : Call) → effectOf (c .op) ≡ Effect.leaves → Lent s c
   -- ---- lists
 
   -- every list goes on in all these ways
-  pub wide : (a : Start) (xs : List Call) (t : Terms) (l m : List ℕ) → Sheet a xs t l m → Wide a xs t l m
+  pub wide : (a : Start) (xs : List Call) (t : Terms) (l : Option (List ℕ)) (m m′ : List ℕ) → Sheet a xs t l m m′ → Wide a xs t l m m′
   -- and some card prices it
   pub priceable : (xs : List Call) (ys : List Later) → Priceable xs ys
   -- the stand opened anew on any other storage that fits, and the sheet on any other one that does: whatever came before, any card will do
-  pub anew : (a : Start) (xs : List Call) → All Lent (fourAfter a []) xs → (o : Origin) (size : Extent) (st : Storage) (l m : List ℕ) (t : Terms)
+  pub anew : (a : Start) (xs : List Call) → All Lent (fourAfter a []) xs → (o : Origin) (size : Extent) (st : Storage) (l m m′ : List ℕ) (t : Terms)
       → openRefusal (openedShape (o .cell) size) (lengthsOf st) ≡ 0 → length l ≡ sections (openedShape (o .cell) size) * 3
-      → 256 ≤ length m → t .cut ≤ limit
-      → Priced a (xs ++ (call (some st) none (Op.openStand o size) ∷ [])) (opening t l m) [] (own (Op.refresh t m)) t
+      → 256 ≤ length m → 256 ≤ length m′ → t .cut ≤ limit
+      → Priced a (xs ++ (call (some st) none (Op.openStand o size) ∷ [])) (opening t (some l) m) [] (own (Op.refresh t m′)) t
   pub grows : Grows
