@@ -3,7 +3,6 @@ use Prim.Native.Nat.{ℕ, _*_, _≤_}
 use mathlib.Core.Bool.{Bool, cond, _&&_}
 use mathlib.Core.List.{List}
 use lib.Dec.{leb}
-use lib.ListN.{length}
 use Rattle.stand.specs.Opening.{headerCall}
 use Rattle.stand.specs.Read.{ofHeader}
 use Rattle.stand.specs.Refusal.{Answer, gives, refused}

@@ -26,7 +26,7 @@ use Rattle.ledger.proofs.Claimed.{append-all, tells-after, written-appe
 use Rattle.ledger.proofs.Kept.{LentBy}
 use Rattle.ledger.proofs.Enough.{Paid, open-accepted}
 use Rattle.ledger.proofs.Starting.{reaches, stand-accepted, starts}
-use Rattle.ledger.proofs.Finishes.{open-rated, priceable}
+use Rattle.ledger.proofs.Finishes.{priceable}
 use Rattle.ledger.proofs.Following.{own-lent, own-lists, refused-by-4}
 use Rattle.ledger.proofs.Going.{priced-so, wide}
 

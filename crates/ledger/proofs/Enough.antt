@@ -74,7 +74,7 @@ module _ (t : Terms) (g : Shape) (f : Cell → ℕ) (h : Paid t g f) where
       either true b e = e
       either false b e = refl
 
--- ---- so nothing turns the call back
+-- ---- so nothing refuses the call
 
 pub record Enough (t : Terms) (b : Book) (m : List ℕ) : Type 0 where
   pub mask : 256 ≤ length m

@@ -5,7 +5,7 @@ use mathlib.Core.List.{List, [], _∷_, _++_, map}
 use mathlib.Core.Option.{Option}
 use Prim.Native.Nat.{ℕ, _+_, _*_, _≤_, _<_}
 use native.Mathlib.Omega.{arith}
-use lib.ListN.{length, length-replicate, replicate}
+use lib.ListN.{length}
 use Rattle.stand.specs.Opening.{openedShape}
 use Rattle.stand.specs.Shape.{sections}
 use Rattle.stand.specs.declared.Cell.{Cell}

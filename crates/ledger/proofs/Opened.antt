@@ -58,7 +58,7 @@ module _ (s : Four) (b : Book) (k : Tells (s .state) b) where
         own-list (λ x. Still x (writeOpen b (lengthsOf st) o size)) l (s .sheet)
         (by-opening (λ r b′. (isGiven (r .answer) ≡ true → ⊥) → Still (s .sheet) b′) st b o size (λ j n. h) (λ e n. absurd (n refl)) n)
 
-    -- a measuring call turned back
+    -- a measuring call refused
     abbrev Turned : Option (List ℕ) → Bool → Outcome → Type 0
     Turned l opens r = isDone (r .verdict) ≡ false → Shows t (r .marks .sheet) (ownAfter l (opens && isDone (r .verdict)) (s .sheet) (r .sheet)) b
 

@@ -49,7 +49,7 @@ unfoldable pub setAll : Book → List Cell → ℕ → Book
 setAll b [] v = b
 setAll b (c ∷ cs) v = setAll (setBook b c v) cs v
 
--- ---- what a call that changes the book writes, from its arguments and the lengths of the storage lent; one turned back, the count read as generation, nothing
+-- ---- what a call that changes the book writes, from its arguments and the lengths of the storage lent; one refused, the count read as generation, nothing
 
 -- under a refusal's number, 0 for none
 unfoldable pub unless : ℕ → Book → Book → Book

@@ -24,7 +24,7 @@ use Rattle.interpreter.specs.declared.Machine.{Machine}
 use Rattle.interpreter.specs.declared.Reply.{Reply}
 use Rattle.interpreter.specs.declared.Reply.the-variants as R
 use Rattle.scripts.specs.Page.{fillNumber, openNumber, rateNumber, setNumber}
-use Rattle.scripts.specs.Said.{onStand, turnedOr}
+use Rattle.scripts.specs.Said.{onStand, refusedOr}
 use Rattle.scripts.proofs.Cards.{listed-is}
 use Rattle.scripts.proofs.Edits.{fill-table, set-table}
 use Rattle.scripts.proofs.Fronts.{Full}
@@ -34,7 +34,7 @@ use Rattle.scripts.proofs.Standing.{Standing, held-is}
 
 -- nothing, or a number
 abbrev pub quietly : ℕ → Reply
-quietly n = turnedOr n R.Quiet
+quietly n = refusedOr n R.Quiet
 
 -- ---- an opening
 

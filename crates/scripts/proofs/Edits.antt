@@ -106,7 +106,7 @@ module _ (m : Machine) (s : Storage) (t : Terms) (sheet : List ℕ) (u : Full s)
         standing = record { n = w .n; n-is = e; few = w .few; tells = r .1; shows = λ q. h (w .shows q); payable = λ q. p (w .shows q) (w .payable q) };
       }
 
-  -- before the first opening 3 turns an edit back
+  -- before the first opening 3 refuses an edit
   unmoved : (o : Outcome ℕ) → o .state ≡ joined (m .volume) (front 0 s) → wellFormed (m .volume) ≡ false → Kept (moved 0 m s o) m t sheet none
   unfolding Standing
   unmoved o e f =

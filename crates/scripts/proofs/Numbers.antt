@@ -21,7 +21,7 @@ use Rattle.interpreter.specs.declared.Call.the-variants as K
 use Rattle.interpreter.specs.declared.Reply.{Reply}
 use Rattle.interpreter.specs.declared.Reply.the-variants as R
 use Rattle.scripts.specs.Page.{Page, fillNumber, fillOn, onBook, openNumber, opened, rateNumber, setNumber, setOn, termsOn, withBook, write}
-use Rattle.scripts.specs.Said.{onStand, refreshNumber, replyTo, turnedOr}
+use Rattle.scripts.specs.Said.{onStand, refreshNumber, replyTo, refusedOr}
 use Rattle.scripts.specs.Says.{numbersOf}
 
 abbrev In : ℕ → List ℕ → Type 0
@@ -48,7 +48,7 @@ quiet : NoNumber R.Quiet
 quiet n e = let z : _≡_ {A = ℕ} 0 1 = cc in absurd (omega arith)
 
 -- under a table's number
-under : (rs : List Rule) (j n : ℕ) (r : Reply) → j ≡ first rs → NoNumber r → turnedOr j r ≡ R.Refused n → In n (numbers rs)
+under : (rs : List Rule) (j n : ℕ) (r : Reply) → j ≡ first rs → NoNumber r → refusedOr j r ≡ R.Refused n → In n (numbers rs)
 under rs zero n r t q e = absurd (q n e)
 under rs (suc j) n r t q e = let d : suc j ≡ n = cc in subst (λ (n : ℕ). In n (numbers rs)) d (first-in rs j (sym t))
 
@@ -71,11 +71,11 @@ call-in p (K.Cut c) n e = absurd (quiet n e)
 
 -- ---- not written down
 
-some-number : (j n : ℕ) → turnedOr j R.Quiet ≡ R.Refused n → (k : ℕ) × (j ≡ suc k)
+some-number : (j n : ℕ) → refusedOr j R.Quiet ≡ R.Refused n → (k : ℕ) × (j ≡ suc k)
 some-number zero n e = absurd (quiet n e)
 some-number (suc j) n e = (j, refl)
 
-edit-unwritten : (number : Book → ℕ) (change : Book → Book) (b : Option Book) (n : ℕ) → onStand b (λ b. turnedOr (number b) R.Quiet) ≡ R.Refused n
+edit-unwritten : (number : Book → ℕ) (change : Book → Book) (b : Option Book) (n : ℕ) → onStand b (λ b. refusedOr (number b) R.Quiet) ≡ R.Refused n
     → onBook (λ b. unless (number b) b (change b)) b ≡ b
 unfolding onBook unless
 edit-unwritten number change none n e = refl
@@ -91,7 +91,7 @@ call-unwritten p (K.Fill c d v) n e =
 call-unwritten p K.Refresh n e = refl
 call-unwritten p (K.Rate f r) n e = by (leb 1 f && leb f 63) e
   where
-    by : (x : Bool) → turnedOr (first ((not x ⇒ 12) ∷ [])) R.Quiet ≡ R.Refused n
+    by : (x : Bool) → refusedOr (first ((not x ⇒ 12) ∷ [])) R.Quiet ≡ R.Refused n
         → record { book = p .book; rates = cond x (set (p .rates) f r) (p .rates); cut = p .cut } ≡ p
     by true e = absurd (quiet n e)
     by false e = refl

@@ -39,7 +39,7 @@ alike g a b h = go (first (shapeRules g)) refl
     go zero e = ap (λ (x : Bool). first (shapeRules g ++ (x ⇒ 4) ∷ [])) (h e)
     go (suc n) e = first-part (shapeRules g) ((a ⇒ 4) ∷ []) (λ z. omega arith) ∙ sym (first-part (shapeRules g) ((b ⇒ 4) ∷ []) (λ z. omega arith))
 
--- nothing turns it back: 1 and 2 let it pass, and it has at most 4 sections
+-- nothing refuses it: 1 and 2 let it pass, and it has at most 4 sections
 pub number-passed : (o : Cell) (size : Extent) → openNumber (openedShape o size) ≡ 0 → (first (shapeRules (openedShape o size)) ≡ 0) × (sections (openedShape o size) ≤ 4)
 unfolding openNumber
 number-passed o size e =

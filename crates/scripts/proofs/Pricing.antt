@@ -47,7 +47,7 @@ module _ (m : Machine) (s : Storage) (rates mask sheet : List ℕ) (u : Full s) 
   abbrev Line : Option Book → Priced → Type 0
   Line b p = Quoted m s rates b p
 
-  -- turned back, n sections lent
+  -- refused, n sections lent
   turned : (n j : ℕ) (b : Option Book) → Standing m s terms sheet b
       → Line b (priced n m sheet (C.outcomeOf (C.refused j) (m .marks) mask (take (n * 3) sheet)))
   turned n j b w =
@@ -64,7 +64,7 @@ module _ (m : Machine) (s : Storage) (rates mask sheet : List ℕ) (u : Full s) 
       rows-are : length rows ≡ w .n * 3
       rows-are = a .shows .length-is ∙ ap (λ n. n * 3) (sym (w .n-is))
 
-      -- totals turns nothing back, and answers the sums
+      -- totals refuses nothing, and answers the sums
       pub totalled : priceReply (m .volume .generation) (totalsCall (m .volume) rows) ≡ R.Price (b .count) (bookSums terms b)
       totalled =
           ap (priceReply (m .volume .generation)) (right terms (four r rows) b (w .tells) (a .shows) (a .mark-is) .totals-are)
@@ -129,7 +129,7 @@ module _ (m : Machine) (s : Storage) (rates mask sheet : List ℕ) (u : Full s) 
 
   -- ---- any stand
 
-  -- before the first opening 3 turns it back
+  -- before the first opening 3 refuses it
   pub ill : (stale : Bool) (v : Volume) (cells log last rows : List ℕ) → wellFormed v ≡ false
       → cond stale (C.openCall terms v cells (m .marks) mask rows) (C.refreshCall terms v cells log last (m .marks) mask rows)
       ≡ C.outcomeOf (C.refused 3) (m .marks) mask rows

@@ -39,7 +39,7 @@ use Rattle.interpreter.specs.Run.{front, held, measureCall, priceReply, pricedT
 use Rattle.interpreter.specs.declared.Machine.{Machine}
 use Rattle.interpreter.specs.declared.Reply.{Reply}
 use Rattle.interpreter.specs.declared.Reply.the-variants as R
-use Rattle.scripts.specs.Said.{allRated, onStand, refreshNumber, turnedOr}
+use Rattle.scripts.specs.Said.{allRated, onStand, refreshNumber, refusedOr}
 use Rattle.scripts.proofs.Fronts.{Full}
 use Rattle.scripts.proofs.Lending.{held-none}
 use Rattle.scripts.proofs.Payable.{Payable}
@@ -146,7 +146,7 @@ module _ (f : Four) (b : Book) (k : Tells (f .state) b) (t : Terms) (mask : List
 
 -- accepted, the sheet it leaves is totalled
 line-under : (m : Machine) (r : Marks) (rows : List ℕ) (x : Reply) (j : ℕ)
-    → (isDone (verdictOf j) ≡ true → priceReply (m .volume .generation) (totalsCall (m .volume) rows) ≡ x) → pricedTurn m (verdictOf j) r rows .reply ≡ turnedOr j x
+    → (isDone (verdictOf j) ≡ true → priceReply (m .volume .generation) (totalsCall (m .volume) rows) ≡ x) → pricedTurn m (verdictOf j) r rows .reply ≡ refusedOr j x
 line-under m r rows x zero h = h refl
 line-under m r rows x (suc j) h = refl
 
@@ -155,7 +155,7 @@ module _ (m : Machine) (s : Storage) (rates mask sheet : List ℕ) (u : Full s) 
   terms = termsIn m rates
 
   abbrev lineOn : Book → Reply
-  lineOn b = turnedOr (refreshNumber terms b) (R.Price (b .count) (bookSums terms b))
+  lineOn b = refusedOr (refreshNumber terms b) (R.Price (b .count) (bookSums terms b))
 
   module _ (b : Book) (w : Stands m s terms sheet b) where
     line-is : (o : C.Outcome) → o .verdict ≡ verdictOf (refreshNumber terms b) → (isDone (o .verdict) ≡ true → Anew terms b (o .marks .sheet) (o .sheet))

@@ -78,7 +78,7 @@ module _ (f : Four) (b : Book) (k : Tells (f .state) b) (t : Terms) (mask : List
         priced-all = priced-after m (λ i li n. q i li (todo-none (f .state) b k (f .marks .sheet) (h .mark-le) i n));
       }
 
-  -- turned back it leaves marks and sheet; accepted it shows the book
+  -- refused it leaves marks and sheet; accepted it shows the book
   module _ (P : C.Outcome → Type 0)
       (back : (j : ℕ) → P (C.outcomeOf (C.refused (suc j)) (f .marks) mask (f .sheet)))
       (done : (r : Marks) (l rows : List ℕ) → Anew t b (r .sheet) rows → P (C.outcomeOf C.done r l rows)) where

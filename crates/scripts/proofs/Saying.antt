@@ -1,14 +1,11 @@
 -- The program prints what its calls say.
 use mathlib.Core.Path.{_≡_, refl, sym, ap, _∙_, subst}
 use mathlib.Core.Bool.{true}
-use mathlib.Core.List.{List, [], _∷_, _++_}
-use mathlib.Core.Option.{Option, none, some}
+use mathlib.Core.List.{List, [], _∷_}
 use Prim.Native.Nat.{ℕ, zero, suc, _≤_}
 use native.Mathlib.Omega.{arith}
 use lib.ListN.{drop, length, length-replicate}
-use Rattle.stand.specs.Opening.{openedShape}
 use Rattle.sheet.specs.Card.{termsOf}
-use Rattle.ledger.specs.Book.{Book}
 use Rattle.ledger.specs.Claim.{bookSums}
 use Rattle.interpreter.specs.Decode.{decodeOf, lengthOf}
 use Rattle.interpreter.specs.Line.{lineOf}
@@ -19,13 +16,12 @@ use Rattle.interpreter.specs.Start.{startMachine}
 use Rattle.interpreter.specs.declared.Call.{Call}
 use Rattle.interpreter.specs.declared.Call.the-variants as K
 use Rattle.interpreter.specs.declared.Machine.{Machine}
-use Rattle.interpreter.specs.declared.Reply.{Reply}
 use Rattle.interpreter.specs.declared.Reply.the-variants as R
 use Rattle.interpreter.specs.declared.decode.Decoded.{Decoded}
 use Rattle.interpreter.specs.declared.decode.Decoded.the-variants as D
 use Rattle.scripts.specs.Page.{Page, blank, pageOf, write}
 use Rattle.scripts.specs.Quotes.{AllTyped, Held, Lent, Typed, heldAfter, runAll}
-use Rattle.scripts.specs.Said.{Bytes, onStand, refreshNumber, replyRead, replyTo, said, saidThen, saidTo, turnedOr, writeRead}
+use Rattle.scripts.specs.Said.{Bytes, onStand, refreshNumber, replyRead, replyTo, said, saidThen, saidTo, refusedOr, writeRead}
 use Rattle.scripts.specs.Says.{Says}
 use Rattle.scripts.proofs.Answering.{fill-says, open-says, rate-says, set-says}
 use Rattle.scripts.proofs.Facewise.{each-rated, page-opens, rated-each}
@@ -56,7 +52,7 @@ module _ (m : Machine) (l : Lists) (p : Page) (w : Ready m l p) where
       refresh-says m (l .storage) (l .rates) (l .mask) (l .sheet) (h .full) (h .rows) (w .room) (p .book) (h .standing)
       ∙ (λ i.
       let t = termsOf (h .rates-are i) (h .cut-is i) true in
-      onStand (p .book) (λ b. turnedOr (refreshNumber t b) (R.Price (b .count) (bookSums t b))))
+      onStand (p .book) (λ b. refusedOr (refreshNumber t b) (R.Price (b .count) (bookSums t b))))
   call-says (K.Rate f r) = rate-says m (l .rates) f r (h .rated)
   call-says (K.Cut c) = refl
 

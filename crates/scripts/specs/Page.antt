@@ -64,7 +64,7 @@ hasRate f = leb 1 f && leb f 63
 unfoldable pub rateNumber : ℕ → ℕ
 rateNumber f = first ((not (hasRate f) ⇒ 12) ∷ [])
 
--- a call written down; one turned back changes nothing, nor does a refresh
+-- a call written down; one refused changes nothing, nor does a refresh
 unfoldable pub write : Page → Call → Page
 write p (K.Open o size) = withBook p (opened (openNumber (openedShape o size)) (p .book) (openedShape o size))
 write p (K.Set c v) = withBook p (onBook (setOn c v) (p .book))

@@ -28,9 +28,9 @@ use Rattle.scripts.specs.Page.{Page, blank, fillNumber, openNumber, rate
 -- ---- one call, on the page of those before it
 
 -- under a refusal's number, 0 for none
-abbrev pub turnedOr : ℕ → Reply → Reply
-turnedOr zero r = r
-turnedOr (suc n) r = R.Refused (suc n)
+abbrev pub refusedOr : ℕ → Reply → Reply
+refusedOr zero r = r
+refusedOr (suc n) r = R.Refused (suc n)
 
 -- 3 before an opening
 abbrev pub onStand : Option Book → (Book → Reply) → Reply
@@ -47,11 +47,11 @@ refreshNumber t b = first ((ltb limit (t .cut) || not (allRated t b) ⇒ 12) ∷
 
 -- a refresh says the count, and the sums of every section measured anew from the book
 unfoldable pub replyTo : Page → Call → Reply
-replyTo p (K.Open o size) = turnedOr (openNumber (openedShape o size)) R.Quiet
-replyTo p (K.Set c v) = onStand (p .book) (λ b. turnedOr (setNumber c v b) R.Quiet)
-replyTo p (K.Fill c d v) = onStand (p .book) (λ b. turnedOr (fillNumber c d b) R.Quiet)
-replyTo p K.Refresh = onStand (p .book) (λ b. turnedOr (refreshNumber (termsOn p) b) (R.Price (b .count) (bookSums (termsOn p) b)))
-replyTo p (K.Rate f r) = turnedOr (rateNumber f) R.Quiet
+replyTo p (K.Open o size) = refusedOr (openNumber (openedShape o size)) R.Quiet
+replyTo p (K.Set c v) = onStand (p .book) (λ b. refusedOr (setNumber c v b) R.Quiet)
+replyTo p (K.Fill c d v) = onStand (p .book) (λ b. refusedOr (fillNumber c d b) R.Quiet)
+replyTo p K.Refresh = onStand (p .book) (λ b. refusedOr (refreshNumber (termsOn p) b) (R.Price (b .count) (bookSums (termsOn p) b)))
+replyTo p (K.Rate f r) = refusedOr (rateNumber f) R.Quiet
 replyTo p (K.Cut c) = R.Quiet
 
 -- ---- all of them

@@ -25,7 +25,7 @@ use Rattle.scripts.specs.Page.{Page, blank, pageOf, write}
 use Rattle.scripts.specs.Quotes.{AllTyped, Held, Lent, runAll}
 use Rattle.scripts.specs.Said.{Bytes, allRated, replyTo, said}
 
--- the numbers that can turn a call back
+-- the numbers that can refuse a call
 abbrev pub numbersOf : Call → List ℕ
 numbersOf (K.Open o size) = 1 ∷ 2 ∷ 4 ∷ []
 numbersOf (K.Set c v) = 3 ∷ 5 ∷ 6 ∷ []
@@ -56,7 +56,7 @@ pub record Says : Type 0 where
   -- no other number is ever given: 4 by an opening alone, and 7 to 11 and 13 by no call
   pub numbers : (l : Lists) (cs : List Call) (c : Call) (n : ℕ) → Lent l → 256 ≤ length (l .mask) → AllTyped cs
       → replyAfter l cs c ≡ R.Refused n → hits (eqb n) (numbersOf c) ≡ true
-  -- and what is turned back is not written down
+  -- and what is refused is not written down
   pub unwritten : (p : Page) (c : Call) (n : ℕ) → replyTo p c ≡ R.Refused n → write p c ≡ p
   -- what 12 asks beside the cut, face by face
   pub rated : (cs : List Call) (b : Book) → pageOf blank cs .book ≡ some b → (t : Terms) → (allRated t b ≡ true → EachRated t b) × (EachRated t b → allRated t b ≡ true)
