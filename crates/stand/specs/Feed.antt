@@ -61,3 +61,9 @@ abbrev pub chunkStep : K.ChunkStep → Answer Next
 chunkStep (K.the-variants.Chunk c g) = gives (chunk c g)
 chunkStep K.the-variants.End = gives end
 chunkStep (K.the-variants.Refused n) = refused n
+
+-- where a walk that stood at next stands after a step: at the generation that gave a section, else where it stood
+abbrev pub onward : Answer Next → ℕ → ℕ
+onward (gives (chunk c g)) next = g
+onward (gives end) next = next
+onward (refused n) next = next

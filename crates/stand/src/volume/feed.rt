@@ -3,7 +3,7 @@ ghost use mathlib.Core.Path.{_≡_};
 ghost use Prim.Native.Nat.{_-_, _≤_};
 ghost use lib.ListN.{length};
 ghost use Rattle.stand.specs.Answer.{numberAnswer};
-ghost use Rattle.stand.specs.Feed.{chunkStep, changedSince, changedStep, feedRefusal, nextFrom};
+ghost use Rattle.stand.specs.Feed.{chunkStep, changedSince, changedStep, feedRefusal, nextFrom, onward};
 ghost use Rattle.stand.specs.Refusal.{gives};
 use crate::volume::Volume;
 use crate::volume::answer::NumberAnswer;
@@ -64,6 +64,17 @@ fn next_changed(log: &[u32], last: &[u64], next: u64, generation: u64) -> ChunkS
         }
     }
     ChunkStep::End
+}
+
+// Where a walk that stood at `next` stands after a step.
+pub(crate) fn next_after(step: ChunkStep, next: u64) -> u64
+    ensures { λ r. ⌜ r ≡ onward (chunkStep step) next ⌝ }
+{
+    match step {
+        ChunkStep::Chunk(_, generation) => generation,
+        ChunkStep::End => next,
+        ChunkStep::Refused(_) => next,
+    }
 }
 
 impl Volume {
