@@ -11,7 +11,7 @@ use Rattle.stand.specs.Opening.{openRefusal, openedShape}
 use Rattle.stand.specs.Refusal as R
 use Rattle.stand.specs.Shape as H
 use Rattle.stand.specs.Shape.{counted, sections}
-use Rattle.stand.specs.Storage.{Lengths, Storage, freshStorage, joined, lengthsOf, storageFits, volumeOf}
+use Rattle.stand.specs.Storage.{Lengths, Storage, freshStorage, joined, lengthsOf, storage, storageFits, volumeOf}
 use Rattle.stand.specs.declared.Cell.{Cell}
 use Rattle.stand.specs.declared.volume.Extent.{Extent}
 use Rattle.sheet.specs.Card.{Terms, limit, payable, termsOf}
@@ -19,22 +19,37 @@ use Rattle.ledger.specs.Book as B
 use Rattle.ledger.specs.Book.{Book, openBook, writeOpen}
 use Rattle.ledger.specs.Breadth.{Breadth, Grows, opening}
 use Rattle.ledger.specs.Calls as C
-use Rattle.ledger.specs.Calls.{Call, Four, Op, Origin, accepted, book, call, feed, given, own, result, run, step, write}
+use Rattle.ledger.specs.Calls.{Call, Effect, Four, Op, Origin, accepted, book, call, feed, given, own, result, run, step, write}
 use Rattle.ledger.specs.Claim.{All, Lent, Priced, Start, bookAfter, fourAfter}
 use Rattle.ledger.specs.Trestles.{cell, extent}
 use Rattle.ledger.proofs.Claimed.{append-all, tells-after, written-append}
-use Rattle.ledger.proofs.Kept.{LentBy}
+use Rattle.ledger.proofs.Kept.{AcceptedBy, LentBy}
 use Rattle.ledger.proofs.Enough.{Paid, open-accepted}
-use Rattle.ledger.proofs.Starting.{reaches, stand-accepted, starts}
+use Rattle.ledger.proofs.Starting.{given-number, reaches, stand-accepted, starts}
 use Rattle.ledger.proofs.Finishes.{priceable}
 use Rattle.ledger.proofs.Following.{own-lent, own-lists, refused-by-4}
 use Rattle.ledger.proofs.Going.{priced-so, wide}
+use Rattle.ledger.proofs.Premises.{answers-4, edits-own, keeps-edits, keeps-leaves, keeps-refreshes, keeps-refused}
 
 -- ---- the stand opened anew
 
 write-opened : (b : Book) (l : Lengths) (o : Cell) (size : Extent) → openRefusal (openedShape o size) l ≡ 0 → writeOpen b l o size ≡ openBook (openedShape o size)
 unfolding writeOpen B.unless
 write-opened b l o size e = ap (λ (n : ℕ). B.unless n b (openBook (openedShape o size))) e
+
+module _ (s : Four) (c : Call) (o : Origin) (size : Extent) (b : Book) where
+  abbrev Writes : Effect → Type 0
+  Writes e = AcceptedBy s c e → write b (lengthsOf (storage (given s c .state))) e ≡ openBook (openedShape (o .cell) size)
+
+  opened-writes : Writes (Effect.opensStand o size)
+  unfolding write result C.opened O.openCall
+  opened-writes a = write-opened b (lengthsOf (storage (given s c .state))) (o .cell) size (given-number _ (storage (given s c .state)) (openedShape (o .cell) size) a)
+
+book-first : (a : Start) (b : Book) (cs : List Call) → book b (feed (a .four) (a .first ∷ cs)) ≡ bookAfter a cs
+unfolding bookAfter book feed accepted
+book-first a b cs =
+    ap (λ (x : Book). book x (feed (step (a .four) (a .first)) cs))
+    (subst (Writes (a .four) (a .first) (a .origin) (a .size) b) (sym (a .opens)) (opened-writes (a .four) (a .first) (a .origin) (a .size) b) (a .is-accepted))
 
 module _ (a : Start) (xs : List Call) (w : All Lent (fourAfter a []) xs) (o : Origin) (size : Extent) (st : Storage)
     (e : openRefusal (openedShape (o .cell) size) (lengthsOf st) ≡ 0) where
@@ -151,9 +166,9 @@ grown =
       longer = replicate 6 0;
       mask = slots;
       terms = free;
-      one = one-section;
+      one-section = one-section;
       opened = first-opened;
-      two = ap (λ (b : Book). sections (b .shape)) (book-anew small sheetFirst first-lent corner row (freshStorage 2) opens-two) ∙ two-sections;
+      two-sections = ap (λ (b : Book). sections (b .shape)) (book-anew small sheetFirst first-lent corner row (freshStorage 2) opens-two) ∙ two-sections;
       priced = anew small sheetFirst first-lent corner row (freshStorage 2) opens-two (replicate 6 0) slots slots (free)
           (ap (λ (n : ℕ). n * 3) (sym two-sections)) (omega arith) (omega arith) (omega arith);
     }
@@ -164,9 +179,18 @@ breadth =
     record {
       starts = starts;
       fresh = λ g k l e r. reaches g e k l r;
+      book-is = book-first;
       own-lists = own-lists;
       refused-by-4 = refused-by-4;
-      stand-anew = λ s st o size. tt;
+      answers-4 = answers-4;
+      stand-anew = λ s c o size h. subst (LentBy s c) (sym h) tt;
+      edits-own = edits-own;
+      keeps-refused = keeps-refused;
+      keeps-edits = keeps-edits;
+      keeps-leaves = keeps-leaves;
+      keeps-refreshes = keeps-refreshes;
+      priced = λ a xs opening ys last t m m′ w p e n q r. record { lent = w; mask = m; opens = p; opened = e; keeps = n; lastMask = m′; refreshes = q; refreshed = r };
+      spared = λ a xs last i t m w q r h clean few. record { lent = w; terms = t; mask = m; refreshes = q; refreshed = r; within = h; clean = clean; few = few };
       sheet-anew = λ s l t m. tt;
       leaves-any = λ s c e. subst (LentBy s c) (sym e) tt;
       wide = wide;

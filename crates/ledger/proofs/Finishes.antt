@@ -82,7 +82,7 @@ top-later t u (Later.fill c d v) = refl
 top-later t u (Later.refresh m) = refl
 top-later t u Later.totals = refl
 top-later t u (Later.reads r) = refl
-top-later t u (Later.lentNone o) = refl
+top-later t u (Later.lentEmpty o) = refl
 
 tops-later : (t u : Terms) (ys : List Later) → tops (map (later t) ys) ≡ tops (map (later u) ys)
 tops-later t u [] = refl

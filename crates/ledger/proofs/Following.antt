@@ -55,7 +55,7 @@ own-lists s (o ∷ os) = (own-lent s o, own-lists (step s (own o)) os)
 -- ---- lists that 4 refuses
 
 -- they may be lent
-uses-so : (e : Effect) (st : Option Storage) (l : Option (List ℕ)) {A : Type 0} → A → Uses e st l A
+pub uses-so : (e : Effect) (st : Option Storage) (l : Option (List ℕ)) {A : Type 0} → A → Uses e st l A
 uses-so (Effect.opensStand o size) st l a = tt
 uses-so (Effect.edits e) none l a = tt
 uses-so (Effect.edits e) (some st) l a = a
@@ -134,7 +134,7 @@ module _ (t : Terms) where
   later-so s b k (Later.refresh m) = (own-lent s (Op.refresh t m), λ e. refl)
   later-so s b k Later.totals = (own-lent s Op.totals, λ e. tt)
   later-so s b k (Later.reads r) = (own-lent s (Op.reads r), λ e. tt)
-  later-so s b k (Later.lentNone o) = none-so s b k t o (effectOf o)
+  later-so s b k (Later.lentEmpty o) = none-so s b k t o (effectOf o)
 
   pub later-all : (s : Four) (b : Book) → Tells (s .state) b → (ys : List Later) → All Lent s (map (later t) ys) × All (Keeps t) s (map (later t) ys)
   unfolding All

@@ -13,7 +13,7 @@ use Rattle.mesh.specs.Cover.{Each}
 use Rattle.sheet.specs.Card.{Terms, limit, payable}
 use Rattle.sheet.specs.declared.Marks.{Marks}
 use Rattle.ledger.specs.Book.{openBook}
-use Rattle.ledger.specs.Breadth.{AllPay, Later, Sheet, Wide, later, opening, sets}
+use Rattle.ledger.specs.Breadth.{AllPay, Later, CanOpen, GoesOn, later, opening, sets}
 use Rattle.ledger.specs.Calls.{Call, Four, Op, accepted, book, feed, orElse, own, run, step, write}
 use Rattle.ledger.specs.Claim.{All, Keeps, Lent, Priced, Spared, Start, bookAfter, fourAfter}
 use Rattle.ledger.proofs.Claimed.{after-append, append-all, shows-later, tells-after, written-append}
@@ -127,7 +127,7 @@ module _ (a : Start) (xs : List Call) (w : All Lent (fourAfter a []) xs) (t : Te
 
 -- ---- how a list may go on
 
-module _ (a : Start) (xs : List Call) (t : Terms) (l : Option (List ℕ)) (m m′ : List ℕ) (h : Sheet a xs t l m m′) where
+module _ (a : Start) (xs : List Call) (t : Terms) (l : Option (List ℕ)) (m m′ : List ℕ) (h : CanOpen a xs t l m m′) where
   rated : AllRated (t .rates) (bookAfter a xs)
   unfolding bookAfter
   rated =
@@ -152,15 +152,15 @@ module _ (a : Start) (xs : List Call) (t : Terms) (l : Option (List ℕ)) (m m�
   since : (ys : List Later) → AllPay (t .rates) (map (later t) ys) → Priced a xs (opening t l m) (map (later t) ys) (own (Op.refresh t m′)) t
   since ys p =
       let q = later-all t there (bookAfter a xs) there-tells ys in
-      priced-so a xs (h .lent) t l m m′ (h .mask) (h .lastMask) (h .cut) (h .sheet) paid (map (later t) ys) (q .0) (q .1) (paid-after (map (later t) ys) p)
+      priced-so a xs (h .lent) t l m m′ (h .mask) (h .lastMask) (h .cut) (h .length-is) paid (map (later t) ys) (q .0) (q .1) (paid-after (map (later t) ys) p)
 
   sets-pay : (cs : List Cell) (v : ℕ) → payable (t .rates) v ≡ true → AllPay (t .rates) (sets cs v)
   sets-pay [] v p = tt
   sets-pay (c ∷ cs) v p = (p, sets-pay cs v p)
 
-  pub wide : Wide a xs t l m m′
+  pub wide : GoesOn a xs t l m m′
   wide =
       record {
         since = since;
-        rows = λ cs v i p. spared-so a xs (h .lent) t l m m′ (h .mask) (h .lastMask) (h .cut) (h .sheet) paid cs v (paid-after (sets cs v) (sets-pay cs v p)) i;
+        rows = λ cs v i p. spared-so a xs (h .lent) t l m m′ (h .mask) (h .lastMask) (h .cut) (h .length-is) paid cs v (paid-after (sets cs v) (sets-pay cs v p)) i;
       }

@@ -54,16 +54,16 @@ fill-unfit s c d v e =
 
 -- ---- the book
 
-turned : (n : ℕ) (b d : Book) → (n ≡ 0 → ⊥) → unless n b d ≡ b
+refused-stays : (n : ℕ) (b d : Book) → (n ≡ 0 → ⊥) → unless n b d ≡ b
 unfolding unless
-turned zero b d h = absurd (h refl)
-turned (suc n) b d h = refl
+refused-stays zero b d h = absurd (h refl)
+refused-stays (suc n) b d h = refl
 
 module _ (b : Book) (l : Lengths) where
   pub write-set-lent : (c : Cell) (v : ℕ) → fitsBook b l ≡ false → writeSet b l c v ≡ b
   unfolding writeSet
-  write-set-lent c v e = turned _ b _ (λ z. false≢true (sym e ∙ settable _ _ _ _ _ _ _ z .fits-is))
+  write-set-lent c v e = refused-stays _ b _ (λ z. false≢true (sym e ∙ settable _ _ _ _ _ _ _ z .fits-is))
 
   pub write-fill-lent : (c d : Cell) (v : ℕ) → fitsBook b l ≡ false → writeFill b l c d v ≡ b
   unfolding writeFill
-  write-fill-lent c d v e = turned _ b _ (λ z. false≢true (sym e ∙ fill-passed _ _ _ _ _ _ z))
+  write-fill-lent c d v e = refused-stays _ b _ (λ z. false≢true (sym e ∙ fill-passed _ _ _ _ _ _ z))

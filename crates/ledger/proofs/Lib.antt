@@ -13,6 +13,7 @@ pub mod Measured
 pub mod Nearby
 pub mod Notes
 pub mod Opened
+pub mod Premises
 pub mod Quoted
 pub mod Right
 pub mod Rows

@@ -59,22 +59,22 @@ module _ (s : Four) (b : Book) (k : Tells (s .state) b) where
         (by-opening (λ r b′. (isGiven (r .answer) ≡ true → ⊥) → Still (s .sheet) b′) st b o size (λ j n. h) (λ e n. absurd (n refl)) n)
 
     -- a measuring call refused
-    abbrev Turned : Option (List ℕ) → Bool → Outcome → Type 0
-    Turned l opens r = isDone (r .verdict) ≡ false → Shows t (r .marks .sheet) (ownAfter l (opens && isDone (r .verdict)) (s .sheet) (r .sheet)) b
+    abbrev IfRefused : Option (List ℕ) → Bool → Outcome → Type 0
+    IfRefused l opens r = isDone (r .verdict) ≡ false → Shows t (r .marks .sheet) (ownAfter l (opens && isDone (r .verdict)) (s .sheet) (r .sheet)) b
 
-    open-turned : (a : State) (l : Option (List ℕ)) (u : Terms) (m : List ℕ)
-        → Turned l true (S.openCall u (a .volume) (a .cells) (s .marks) m (orElse l (s .sheet)))
+    open-refused : (a : State) (l : Option (List ℕ)) (u : Terms) (m : List ℕ)
+        → IfRefused l true (S.openCall u (a .volume) (a .cells) (s .marks) m (orElse l (s .sheet)))
     unfolding S.openCall
-    open-turned a l u m =
-        by-measuring u (a .volume) (look (shape a) (a .cells)) every (s .marks) m (orElse l (s .sheet)) (Turned l true) _
+    open-refused a l u m =
+        by-measuring u (a .volume) (look (shape a) (a .cells)) every (s .marks) m (orElse l (s .sheet)) (IfRefused l true) _
         (λ j e. own-list (λ x. Still x b) l (s .sheet) h) (λ e. absurd (true≢false e))
 
-    refresh-turned : (a : State) (l : Option (List ℕ)) (u : Terms) (m : List ℕ)
-        → Turned l false (S.refreshCall u (a .volume) (a .cells) (a .log) (a .last) (s .marks) m (orElse l (s .sheet)))
+    refresh-refused : (a : State) (l : Option (List ℕ)) (u : Terms) (m : List ℕ)
+        → IfRefused l false (S.refreshCall u (a .volume) (a .cells) (a .log) (a .last) (s .marks) m (orElse l (s .sheet)))
     unfolding S.refreshCall
-    refresh-turned a l u m =
+    refresh-refused a l u m =
         by-measuring u (a .volume) (look (shape a) (a .cells)) (todo (shape a) (a .log) (a .last) (s .marks .sheet) (a .volume .generation)) (s .marks) m
-        (orElse l (s .sheet)) (Turned l false) _
+        (orElse l (s .sheet)) (IfRefused l false) _
         (λ j e. own-list (λ x. Still x b) l (s .sheet) h) (λ e. absurd (true≢false e))
 
     abbrev lens : Option Storage → Lengths
@@ -90,7 +90,7 @@ module _ (s : Four) (b : Book) (k : Tells (s .state) b) where
     refresh-shows st l u m true e w n =
         subst (λ (x : Terms). Showing x (step s (call st l (Op.refresh u m))) b) (n e)
         (shows-refreshed u m (call st l (Op.refresh u m)) refl w e (subst (λ (x : Terms). Showing x s b) (sym (n e)) h))
-    refresh-shows st l u m false e w n = refresh-turned (given s (call st l (Op.refresh u m)) .state) l u m e
+    refresh-shows st l u m false e w n = refresh-refused (given s (call st l (Op.refresh u m)) .state) l u m e
 
     shows-call : (st : Option Storage) (l : Option (List ℕ)) (o : Op) (e : Effect) → LentBy s (call st l o) e
         → (AcceptedBy s (call st l o) e → KeepsTo t e) → After st l o e
@@ -100,7 +100,7 @@ module _ (s : Four) (b : Book) (k : Tells (s .state) b) where
         own-list (λ x. Still x (writeSet b (lens st) c v)) l (s .sheet) (shows-write-set b (lens st) c v h)
     shows-call st l o (Effect.edits (Edit.box c d v)) w n =
         own-list (λ x. Still x (writeFill b (lens st) c d v)) l (s .sheet) (shows-write-fill b (lens st) c v h d)
-    shows-call st l o (Effect.opensSheet u m) w n = open-turned (given s (call st l o) .state) l u m (sym (refuted _ n))
+    shows-call st l o (Effect.opensSheet u m) w n = open-refused (given s (call st l o) .state) l u m (sym (refuted _ n))
     shows-call st l o (Effect.refreshes u m) w n = refresh-shows st l u m (accepted s (call st l (Op.refresh u m))) refl w n
     shows-call st l o Effect.leaves w n = own-list (λ x. Still x b) l (s .sheet) h
 

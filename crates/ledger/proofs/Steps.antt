@@ -112,6 +112,8 @@ steps s =
       fill = λ c d v. record { is-accepted = refl; four = refl };
       open-sheet = λ t m. record { is-accepted = refl; four = refl };
       refresh = λ t m. record { is-accepted = refl; four = refl };
+      totals = λ c e. subst (λ (x : Op). stepBy s c (effectOf x) ≡ s) (sym e) (left-all s (c .storage) (c .sheet) (c .op));
+      reads = λ c r e. subst (λ (x : Op). stepBy s c (effectOf x) ≡ s) (sym e) (left-all s (c .storage) (c .sheet) (c .op));
       leaves = λ c e. subst (λ (x : Effect). stepBy s c x ≡ s) (sym e) (left-all s (c .storage) (c .sheet) (c .op));
       refused-leaves = λ c e. refused-left s (c .storage) (c .sheet) (c .op) (effectOf (c .op)) e;
       unfit-leaves = λ c u. unfit-left s (c .storage) (c .sheet) (c .op) (effectOf (c .op)) u;

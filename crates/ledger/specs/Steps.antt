@@ -12,6 +12,7 @@ use Rattle.stand.specs.declared.volume.Extent.{Extent}
 use Rattle.sheet.specs.Calls as S
 use Rattle.sheet.specs.Card.{Terms}
 use Rattle.sheet.specs.declared.Marks.{Marks}
+use Rattle.ledger.specs.Reading.{Reading}
 use Rattle.ledger.specs.Calls.{Call, Effect, Four, Op, Origin, accepted, effectOf, given, headerAfter, isDone, isGiven, own, step, unfit}
 
 -- a call lent the four's own lists: whether it is accepted, and the four after it
@@ -37,6 +38,9 @@ pub record Steps (s : Four) : Type 0 where
   -- ---- however lent
 
   -- totals and every read
+  pub totals : (c : Call) → c .op ≡ Op.totals → step s c ≡ s
+  pub reads : (c : Call) (r : Reading) → c .op ≡ Op.reads r → step s c ≡ s
+  -- any call that the table says leaves them
   pub leaves : (c : Call) → effectOf (c .op) ≡ Effect.leaves → step s c ≡ s
   pub refused-leaves : (c : Call) → accepted s c ≡ false → step s c ≡ s
   -- a call lent lists of a length that 4 refuses

@@ -89,9 +89,9 @@ module _ (m : Machine) (s : Storage) (t : Terms) (sheet : List ℕ) (u : Full s)
   under j k =
       editedOf (openedTurn m (O.opened j (front k s) (openedShape o size) .answer)) (back k (O.opened j (front k s) (openedShape o size) .storage) s)
 
-  turned-kept : (j k : ℕ) (b : Option Book) → Standing m s t sheet b → Kept (under (suc j) k) m t sheet b
+  refused-kept : (j k : ℕ) (b : Option Book) → Standing m s t sheet b → Kept (under (suc j) k) m t sheet b
   unfolding O.opened
-  turned-kept j k b w =
+  refused-kept j k b w =
       subst (λ (x : Storage). Kept (editedOf (turnOf m (R.Refused (suc j))) x) m t sheet b) (sym (back-front k s))
       (record { full = u; cut-is = refl; standing = w })
 
@@ -120,4 +120,4 @@ module _ (m : Machine) (s : Storage) (t : Terms) (sheet : List ℕ) (u : Full s)
       go zero e =
           let p = number-passed o size e in
           subst (λ k. Kept (under 0 k) m t sheet (some (openBook (openedShape o size)))) (sym (lent-all s u o size (p .0) (p .1))) (fresh-kept r e)
-      go (suc j) e = turned-kept j (n s u o size) b w
+      go (suc j) e = refused-kept j (n s u o size) b w

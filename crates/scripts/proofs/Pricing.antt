@@ -48,9 +48,9 @@ module _ (m : Machine) (s : Storage) (rates mask sheet : List ℕ) (u : Full s) 
   Line b p = Quoted m s rates b p
 
   -- refused, n sections lent
-  turned : (n j : ℕ) (b : Option Book) → Standing m s terms sheet b
+  refused-line : (n j : ℕ) (b : Option Book) → Standing m s terms sheet b
       → Line b (priced n m sheet (C.outcomeOf (C.refused j) (m .marks) mask (take (n * 3) sheet)))
-  turned n j b w =
+  refused-line n j b w =
       subst (λ (x : List ℕ). Line b (pricedOf (turnOf m (R.Refused j)) mask x)) (sym (take-append-drop (n * 3) sheet))
       (record { rows = q; cut-is = refl; standing = w; fair = λ generation row e. absurd (refusal j generation row e) })
 
@@ -112,7 +112,7 @@ module _ (m : Machine) (s : Storage) (rates mask sheet : List ℕ) (u : Full s) 
 
     back : (j : ℕ) → After (C.outcomeOf (C.refused (suc j)) (m .marks) mask (take (w .n * 3) sheet))
     unfolding Standing
-    back j = turned (w .n) (suc j) (some b) w
+    back j = refused-line (w .n) (suc j) (some b) w
 
     onward : (r : Marks) (l rows : List ℕ) → Anew terms b (r .sheet) rows → After (C.outcomeOf C.done r l rows)
     onward r l rows a = done r rows a l
@@ -142,5 +142,5 @@ module _ (m : Machine) (s : Storage) (rates mask sheet : List ℕ) (u : Full s) 
   quoted none f =
       subst (λ n. Line none (refreshWith n m s rates mask sheet)) (sym (ap (held m s) q ∙ held-none m s u f))
       (subst (λ (o : C.Outcome). Line none (priced 0 m sheet o)) (sym (ill (m .stale) (m .volume) (take 0 (s .cells)) (take 0 (s .log)) (take 0 (s .last)) (take 0 sheet) f))
-      (turned 0 3 none f))
+      (refused-line 0 3 none f))
   quoted (some b) w = subst (λ n. Line (some b) (refreshWith n m s rates mask sheet)) (sym (held-is w u (length sheet) q)) (measured b w)

@@ -120,6 +120,7 @@ says =
       script = λ b v. script-says (length b) startMachine startLists blank b (start-ready startLists start-lent (omega (arith, length-replicate {A = ℕ} 256 0))) v;
       any-lists = λ l b w r v. script-says (length b) startMachine l blank b (start-ready l w r) v;
       front = own-bytes;
+      typed = λ b c v e. subst TypedIn e (decode-typed b v);
       reply = λ l cs c w r t.
           call-says _ _ (pageOf blank cs) (run-ready (record { machine = startMachine; lists = l }) blank cs t (start-ready l w r)) c;
       numbers = λ l cs c n w r t e.

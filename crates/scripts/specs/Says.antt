@@ -21,11 +21,12 @@ use Rattle.interpreter.specs.declared.Call.{Call}
 use Rattle.interpreter.specs.declared.Call.the-variants as K
 use Rattle.interpreter.specs.declared.Reply.{Reply}
 use Rattle.interpreter.specs.declared.Reply.the-variants as R
+use Rattle.interpreter.specs.declared.decode.Decoded.the-variants as D
 use Rattle.scripts.specs.Page.{Page, blank, pageOf, write}
-use Rattle.scripts.specs.Quotes.{AllTyped, Held, Lent, runAll}
+use Rattle.scripts.specs.Quotes.{AllTyped, Held, Lent, Typed, runAll}
 use Rattle.scripts.specs.Said.{Bytes, allRated, replyTo, said}
 
--- the numbers that can refuse a call
+-- the numbers that can refuse a call, at most
 abbrev pub numbersOf : Call → List ℕ
 numbersOf (K.Open o size) = 1 ∷ 2 ∷ 4 ∷ []
 numbersOf (K.Set c v) = 3 ∷ 5 ∷ 6 ∷ []
@@ -51,6 +52,8 @@ pub record Says : Type 0 where
   pub any-lists : (l : Lists) (b : List ℕ) → Lent l → 256 ≤ length (l .mask) → Bytes b → printedTo (length b) startMachine l b ≡ said b
   -- the program reads no more than a call's own bytes, which decode alike
   pub front : (b : List ℕ) → decodeOf (take (max 1 (lengthOf (byteAt b 0))) b) ≡ decodeOf b
+  -- the calls of a script are such as `reply` and `Quotes` speak of
+  pub typed : (b : List ℕ) (c : Call) → Bytes b → decodeOf b ≡ D.Is c → Typed c
   -- any list of calls, and the reply to one more
   pub reply : (l : Lists) (cs : List Call) (c : Call) → Lent l → 256 ≤ length (l .mask) → AllTyped cs → replyAfter l cs c ≡ replyTo (pageOf blank cs) c
   -- no other number is ever given: 4 by an opening alone, and 7 to 11 and 13 by no call
