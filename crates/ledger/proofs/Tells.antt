@@ -200,7 +200,7 @@ pub rules-pass : (a b : Bool) → a ≡ false → b ≡ false → first ((a ⇒ 
 unfolding first
 rules-pass a b p q = rw (p, q)
 
--- one that nothing turns back
+-- one that nothing refuses
 pub open-passed : (o : Cell) (size : Extent) (l : Lengths) → openRefusal (openedShape o size) l ≡ 0 → (opens (openedShape o size) ≡ true) × (storageFits (sections (openedShape o size)) l ≡ true)
 unfolding openRefusal
 open-passed o size l e =
