@@ -1,0 +1,17 @@
+-- `cases::lend::part16` meets its contract.
+use Rattle.io.proofs.Counting.{front}
+use borrow.Author.Needs.{needs}
+use Rattle.cases.proofs.lend.part16.Statement.{statement}
+use Rattle.cases.proofs.lend.part16.Tie as tie
+
+returns : tie.Need-returns
+returns c = search needs
+
+slice-aggregate-result : tie.Need-slice-aggregate-result
+slice-aggregate-result c = front _ _ (search needs)
+
+returns-2 : tie.Need-returns-2
+returns-2 c = search needs
+
+pub part16-spec : {M : Type 1} → statement M
+part16-spec = tie.close (tie.spec returns slice-aggregate-result returns-2)
