@@ -41,7 +41,7 @@ differential --scripts N  the program trial with N random scripts (300,000 unles
 differential --lines N    the program quote with N random texts (100,000 unless said)
 differential --self-test  faults put into our side must be found
 differential --bench      times of both sides
-differential --record F   calls with the Rust's answers, written to F for the crate replay";
+differential --record F   calls with the Rust's answers, written behind the worked cases in F";
 
 const DAMAGED: u64 = 1_000_000;
 const CHECKED: u64 = 200_000;
