@@ -19,7 +19,7 @@ fn fold_u32(start: u64, list: &[u32]) -> u64 {
     accumulator
 }
 
-fn fold_u64(start: u64, list: &[u64]) -> u64 {
+pub(crate) fn fold_u64(start: u64, list: &[u64]) -> u64 {
     let mut accumulator = start;
     let mut i = 0;
     while i < list.len() {
