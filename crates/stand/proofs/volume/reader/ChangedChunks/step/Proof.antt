@@ -42,7 +42,7 @@ use denote.Triple.Table.{entered, cited}
 use denote.Triple.Walked.{says, Stays, stay-none, walkOf, goes-none, Walks, ends-at, walked, walk-meets}
 use denote.Exit.{yes}
 use denote.Triple.Clauses.{ensured, lasts}
-use Rattle.stand.specs.Feed.{changedStep, chunkStep, onward}
+use Rattle.stand.specs.Feed.{changedStep, chunkStep, nextAfter}
 use Rattle.stand.specs.declared.volume.Volume.{Volume}
 use Rattle.stand.specs.declared.volume.reader.ChangedChunks.{ChangedChunks}
 use Rattle.stand.specs.declared.volume.reader.Stepped.{Stepped}
@@ -187,8 +187,8 @@ module _ {M : Type 1} (𝓤 : URA M) (H : Heap 𝓤) (A : Atoms 𝓤) (W : Given
     asked′ =
         qed W (‵ ftrue ∷ []) ∵ owned ! u64 (Is u64) (uint-makes 𝓤 H A W w64) (d .next) _ (refl, next-fits) $ fjoin ! $ owned ! S.the-row (Is S.the-row) (EL.makes S.the-type S′.the-plain 𝓤 H A) r _ r-is $ fjoin ! $ nothing ! $ join ! $ frame ! $ done !
 
-    said′ : (n : ℕ) → ent 𝓤 (ensured 𝓤 H A after.ended (after.clauses 𝓤 H A mem run) tt p′ tt n) (fact 𝓤 (n ≡ onward (chunkStep r) (d .next)))
-    said′ n = exE 𝓤 _ (λ ws. snd∗ 𝓤 (sem 𝓤 H A (lasts after.ended tt p′ ws)) (fact 𝓤 (n ≡ onward (chunkStep r) (d .next))))
+    said′ : (n : ℕ) → ent 𝓤 (ensured 𝓤 H A after.ended (after.clauses 𝓤 H A mem run) tt p′ tt n) (fact 𝓤 (n ≡ nextAfter (chunkStep r) (d .next)))
+    said′ n = exE 𝓤 _ (λ ws. snd∗ 𝓤 (sem 𝓤 H A (lasts after.ended tt p′ ws)) (fact 𝓤 (n ≡ nextAfter (chunkStep r) (d .next))))
 
     -- ---- the result
     module _ (n : ℕ) (n-fits : n < 2 ^ 64) where
@@ -207,7 +207,7 @@ module _ {M : Type 1} (𝓤 : URA M) (H : Heap 𝓤) (A : Atoms 𝓤) (W : Given
       result-is : Is (R.the-row (namedLft 2 0 tt κs) (namedLft 2 1 tt κs)) result (mach′ ∷ [])
       result-is = LL.owes (D′ κs) (L′ κs) result (r-is, (moved-is, tt))
 
-      exits : Right r → n ≡ onward (chunkStep r) (d .next) → ent 𝓤 (⋆ 𝓤 H A (tokens ∷ ‵ Own ∷ [])) (Post mach′)
+      exits : Right r → n ≡ nextAfter (chunkStep r) (d .next) → ent 𝓤 (⋆ 𝓤 H A (tokens ∷ ‵ Own ∷ [])) (Post mach′)
       exits e e′ =
           qed W (tokens ∷ ‵ Own ∷ []) ∵
           suffices ! _ (ends-at 𝓤 H A step.ended stayed (step.clauses 𝓤 H A mem run) W ((κs, qs, tt, a, at), tt) mach′ result (tt, (tt, tt)) (tt, (tt, tt))) $ says ! (e, refl, refl, e′) $
@@ -240,7 +240,7 @@ module _ {M : Type 1} (𝓤 : URA M) (H : Heap 𝓤) (A : Atoms 𝓤) (W : Given
         -- [what `next_after` asks; the tokens; what the reader owns; _11; …]
         calls-at ! fm (After 𝓤 H A mem run) known′ (to′ r (found-is r u is)) (and-then ! (load ! (from ! (stop !)) (look ! 19 refl)) (and-then ! (load ! (from ! (stop !)) (look ! 9 refl)) (no-more !))) (λ w.
         use1 W (later (some (λ (n : ℕ). (‵ ftrue ⊛ ‵ (u64 .own n (w ∷ []))) ⊛ raw (ensured 𝓤 H A after.ended (after.clauses 𝓤 H A mem run) tt (p′ r (found-is r u is)) tt n)))) (id⊢ 𝓤 _) $ await ! tt $ pick ! (λ n.
-        split ! $ move ! (1 ∷ []) $ use1 W (raw (fact 𝓤 (n ≡ onward (chunkStep r) (d .next)))) (said′ r (found-is r u is) n) $ heard ! (n ≡ onward (chunkStep r) (d .next)) (λ e′. split ! $ drop ! $
+        split ! $ move ! (1 ∷ []) $ use1 W (raw (fact 𝓤 (n ≡ nextAfter (chunkStep r) (d .next)))) (said′ r (found-is r u is) n) $ heard ! (n ≡ nextAfter (chunkStep r) (d .next)) (λ e′. split ! $ drop ! $
         -- [the next number; the tokens; what the reader owns; _11; …]
         peeks ! u64 (Is u64) (shows 𝓤 H A u64) n (w ∷ []) (λ is′. drop ! $
         -- [the tokens; what the reader owns; _11; …]: _i at 24 - 2i
