@@ -27,3 +27,4 @@ pub mod Step
 pub mod Tiling
 pub mod Upto
 pub mod Wanting
+pub mod Whole
