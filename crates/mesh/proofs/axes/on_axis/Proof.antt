@@ -1,10 +1,10 @@
--- `mesh::part::on_axis` meets its contract.
+-- `mesh::axes::on_axis` meets its contract.
 use borrow.Author.Needs.{needs}
 use mathlib.Core.Path.{_≡_, refl}
 use Rattle.mesh.specs.Part.{onAxis}
 use Rattle.mesh.proofs.Parts.{third}
-use Rattle.mesh.proofs.part.on_axis.Statement.{statement}
-use Rattle.mesh.proofs.part.on_axis.Tie as tie
+use Rattle.mesh.proofs.axes.on_axis.Statement.{statement}
+use Rattle.mesh.proofs.axes.on_axis.Tie as tie
 
 returns : tie.Need-returns
 returns c = search needs
