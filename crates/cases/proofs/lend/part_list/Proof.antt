@@ -1,5 +1,4 @@
 -- `cases::lend::part_list` meets its contract.
-use lib.ListN.{length}
 use mathlib.Core.Path.{sym}
 use lib.Seq.{length-take-le}
 use borrow.Author.Needs.{needs}

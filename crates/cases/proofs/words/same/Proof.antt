@@ -1,6 +1,5 @@
 -- `cases::words::same` meets its contract.
 use Prim.Native.Nat.{_-_, _≤_}
-use lib.ListN.{length}
 use borrow.Author.Needs.{needs}
 use Rattle.cases.proofs.words.same.Statement.{statement}
 use Rattle.cases.proofs.words.same.Tie as tie
