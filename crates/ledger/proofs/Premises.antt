@@ -1,14 +1,13 @@
 -- The premises of the claim ask no more than the demand: what may be lent, and what keeps to the terms, on any four.
 use mathlib.Core.Path.{_≡_, refl, sym, ap, _∙_, subst}
 use mathlib.Core.Bool.{Bool, true, false, cond, not, false≢true, _||_, _&&_}
-use mathlib.Core.List.{List, [], _∷_}
+use mathlib.Core.List.{List}
 use mathlib.Core.Option.{Option, none, some}
 use Prim.Native.Nat.{ℕ, zero, suc, _-_}
 use lib.Dec.{eqb, ltb}
 use native.Mathlib.Omega.{arith}
-use lib.ListN.{length}
 use Rattle.stand.specs.Edit as E
-use Rattle.stand.specs.Edit.{Edited, fitting, lastGeneration, setCall, setRefusal}
+use Rattle.stand.specs.Edit.{Edited, lastGeneration, setCall, setRefusal}
 use Rattle.stand.specs.Fill.{boxOf, cellsIn, fillCall, fillRefusal}
 use Rattle.stand.specs.Refusal as R
 use Rattle.stand.specs.Refusal.{Answer, first}
@@ -25,7 +24,7 @@ use Rattle.ledger.specs.Breadth.{AnswersFour}
 use Rattle.ledger.specs.Calls.{Call, Effect, Four, accepted, effectOf, given, unfit}
 use Rattle.ledger.specs.Claim.{Keeps, KeepsTo, Lent, Own}
 use Rattle.ledger.proofs.Following.{uses-so}
-use Rattle.ledger.proofs.Kept.{AcceptedBy, LentBy}
+use Rattle.ledger.proofs.Kept.{LentBy}
 
 -- ---- a call that answers 4 was lent lists of another length
 
