@@ -4,14 +4,16 @@
  * Link with libexports.a, which `rt staticlib exports` writes (x86-64 Linux).
  *
  * Terms. A cell is a cube at whole coordinates x, y, z; it holds a finish, 1 to 65,535, or 0 for empty.
- * A section is 16 by 16 by 16 cells; sections are numbered from 0, x fastest, then y, then z. A panel is a
- * rectangle of visible faces of one side and one finish. The generation counts the changes of a stand.
+ * A section is 16 by 16 by 16 cells, the last one along an axis cut short by the stand's size; sections are
+ * numbered from 0, x fastest, then y, then z. A panel is a rectangle of visible faces of one side and one
+ * finish. The generation counts the changes of a stand since its opening.
  *
  * Lists. The caller owns all memory. Each list is a pointer followed by a count of entries. Nothing is kept
  * after a call, and nothing is allocated. A pointer must be aligned for its type and not null, even where
- * the count is 0. Lists of one call must not overlap, unless all of them are const. A list that is not
- * const may be written; the comments below say how. A stand of n sections
- * (stand_chunk_count) has these lists, and each must have exactly this many entries:
+ * the count is 0. Two lists of one call may overlap only if both are const. During a call no other thread may
+ * write a list of it, or read one that is not const: such a list may be written; the comments below say how.
+ * A stand of n sections (stand_chunk_count) has these lists, and each must have exactly this many entries,
+ * for a section cut short too:
  *
  *     cells      n * 4096   the finish of each cell
  *     hashes     n          the hash of each section
@@ -46,18 +48,21 @@ enum {
     STAND_OK = 0,
     STAND_TOO_MANY_CHUNKS = 1,  /* opening: more than 65,536 sections */
     STAND_PAST_I32 = 2,         /* opening: the last cell is past 2,147,483,647 on an axis */
-    STAND_BAD_HEADER = 3,       /* a header whose sizes and sections opening would not give */
-    STAND_BAD_LENGTH = 4,       /* a list of another length than the stand needs */
+    STAND_BAD_HEADER = 3,       /* a header whose sizes, sections and last cell opening would not give */
+    STAND_BAD_LENGTH = 4,       /* storage or sheet of another length than the stand needs */
     STAND_OUTSIDE = 5,          /* the cell is outside the stand */
-    STAND_LAST_GENERATION = 6,  /* fewer generations remain than the edit may need */
+    STAND_LAST_GENERATION = 6,  /* a set that would change at generation 2^64 - 1, or a fill whose box in the
+                                   stand has more cells than generations remain */
     STAND_BAD_CHUNK = 7,        /* the section's number is too high */
     STAND_MARK_AHEAD = 8,       /* the mark is above the generation */
     STAND_MARK_TOO_OLD = 9,     /* more changes since the mark than there are sections */
     STAND_SHORT_MASK = 10,      /* the mask has fewer slots than the largest side of what is meshed */
     STAND_SHORT_LIST = 11,      /* the panel list is too short: value is the panels needed, the list holds
                                    the first that fit, and the mask is left as by an accepted call */
-    STAND_BAD_RATE = 12,        /* pricing: a rate or the cut above its limit, or a finish with no rate */
-    STAND_BAD_PANEL = 13,       /* extents not all positive, or a product past i32; a row that no section can have */
+    STAND_BAD_RATE = 12,        /* the cut is above 1,000,000; or a visible face in a section to be measured has
+                                   a finish off the list, or one whose rate is above 1,000,000 */
+    STAND_BAD_PANEL = 13,       /* a panel's extents not all positive, or their product past i32; a row to be
+                                   totalled above 24,576 panels, 24,576 faces or 49,152,000,000 cents */
     STAND_BAD_ARGUMENT = 100    /* a rule other than 0 and 1, or a side above 5; before all others */
 };
 
@@ -94,7 +99,7 @@ typedef struct {
     stand_cell origin;    /* the lowest cell */
     stand_extent chunks;  /* sections along each axis */
     stand_extent size;    /* cells along each axis */
-    uint64_t generation;  /* changes so far */
+    uint64_t generation;  /* changes since the opening */
     uint64_t solid;       /* occupied cells */
 } stand_volume;
 
@@ -126,14 +131,14 @@ typedef struct {
 
 typedef struct {
     uint32_t code;
-    uint32_t given;  /* 1: a section; 0: the walk is over */
+    uint32_t given;  /* 1: a section; 0: the walk is over, and all else is 0 */
     uint64_t chunk;
     uint64_t next;   /* for the next step */
 } stand_chunk_given;
 
 typedef struct {
     uint32_t code;
-    uint32_t given;  /* 1: a cell; 0: the walk is over */
+    uint32_t given;  /* 1: a cell; 0: the walk is over, and all else is 0 */
     stand_cell cell;
     uint32_t finish;
     uint64_t next;   /* for the next step */
@@ -155,7 +160,7 @@ typedef struct {
 
 typedef struct {
     uint32_t code;
-    uint32_t given;       /* 1: a panel; 0: no slot is left */
+    uint32_t given;       /* 1: a panel; 0: no face is left, and all else is 0 */
     stand_cell cell;      /* the panel's lowest cell */
     uint32_t side;
     uint32_t finish;
@@ -179,7 +184,8 @@ typedef struct {
 
 /* ---- opening and editing: these write the five lists ---- */
 
-/* The header that opening would give: its sections say how many entries to lend. Refused: 1, 2. */
+/* The header that opening would give, before any list is lent: stand_chunk_count of it is the n above. It is
+   the header of no stand until stand_open was called. Refused: 1, 2. */
 stand_opened stand_header(stand_cell origin, stand_extent size);
 
 /* Opens a stand of `size` cells from `origin` on, all empty. A size below 1 counts as 1. The lists may hold
@@ -214,7 +220,7 @@ stand_number stand_set_lent(stand_volume *volume,
 
 /* Gives every cell of a box a finish. `from` and `to` are any two opposite corners, both included. Each
    corner is first moved to the nearest cell of the stand, so a box wholly outside fills border cells.
-   Refused: 3, 4, 6. */
+   `changed` counts the cells that had another finish. Refused: 3, 4, 6. */
 stand_edited stand_fill(stand_volume volume,
                         uint16_t *cells, size_t cells_count,
                         uint64_t *hashes, size_t hashes_count,
@@ -268,9 +274,11 @@ stand_number stand_chunk_of(stand_volume volume, stand_cell cell);
 stand_number stand_chunk_hash(stand_volume volume, const uint64_t *hashes, size_t hashes_count, size_t chunk);
 
 /* The version of a section: its changes, modulo 2^32. Refused also: 7. */
-stand_number stand_chunk_version(stand_volume volume, const uint32_t *versions, size_t versions_count, size_t chunk);
+stand_number stand_chunk_version(stand_volume volume, const uint32_t *versions, size_t versions_count,
+                                 size_t chunk);
 
-/* One number over origin, sizes and all hashes: two stands with the same cells have the same one. */
+/* One number over origin, sections, size and all hashes. Two stands of the same origin and the same size, with
+   the same finish in each cell, have the same one, however they were edited. */
 stand_number stand_digest(stand_volume volume, const uint64_t *hashes, size_t hashes_count);
 
 /* How many faces a panel of these extents has: their product. Refused: 13 alone. */
@@ -284,71 +292,92 @@ stand_number stand_changed_since(stand_volume volume,
                                  const uint32_t *log, size_t log_count,
                                  const uint64_t *last, size_t last_count, uint64_t mark);
 
-/* The next section changed since, each given once. Start with `next` = the mark, go on with the answer's
-   `next` until `given` is 0. Refused: 3, 4, 8, 9. */
+/* The next section changed since, each given once, in the order of their last changes. Start with `next` = the
+   mark, go on with the answer's `next` until `given` is 0. A section edited after it was given is given again.
+   Refused: 3, 4, 8, 9. */
 stand_chunk_given stand_changed_step(stand_volume volume,
                                      const uint32_t *log, size_t log_count,
                                      const uint64_t *last, size_t last_count, uint64_t next);
 
-/* The next occupied cell, section by section. Start with `next` = 0, go on with the answer's `next` until
-   `given` is 0. Refused: 3, 4. */
+/* The next occupied cell, section by section, in each x fastest, then y, then z. Start with `next` = 0, go on
+   with the answer's `next` until `given` is 0. An occupied entry of `cells` beyond the stand's size, which no
+   call makes, is given too. Refused: 3, 4. */
 stand_solid_given stand_solid_step(stand_volume volume, const uint16_t *cells, size_t cells_count, size_t next);
 
 /* ---- panels: these write the mask, and the list ---- */
 
 /* The panels of the whole stand, merged across sections. The mask is work space of any contents. It needs
    as many slots as the largest side of the stand has cells; accepted or refused by 11, that many first
-   slots are 0 after. Each panel is eight numbers in the list, from its start on:
+   slots are 0 after, and those past them stay as they were. Each panel is eight numbers in the list, from its
+   start on:
        x, y, z of the lowest cell; side; finish; cells along x, y, z
    and the numbers after the last panel stay as they were. The value is the panels written.
    Refused: 100, 3, 4, 10, 11. */
 stand_number stand_faces(stand_volume volume, const uint16_t *cells, size_t cells_count, uint32_t rule,
                          uint16_t *mask, size_t mask_count, int32_t *list, size_t list_count);
 
-/* The panels of one section: none reaches past it. A mask of 256 slots is always enough, and a list of
-   196,608 numbers. Refused: 100, 3, 4, 7, 10, 11. */
+/* The panels of one section, in the same form: none reaches past it. The mask needs the slots that
+   stand_chunk_slots answers; 256 are always enough, and a list of 196,608 numbers.
+   Refused: 100, 3, 4, 7, 10, 11. */
 stand_number stand_chunk_faces(stand_volume volume, const uint16_t *cells, size_t cells_count, size_t chunk,
                                uint32_t rule, uint16_t *mask, size_t mask_count,
                                int32_t *list, size_t list_count);
 
-/* How many mask slots a section wants: its largest side, cut short by the size. Refused: 3, 7. */
+/* How many mask slots a section needs: the cells of its largest side, cut short by the size. Refused: 3, 7. */
 stand_number stand_chunk_slots(stand_volume volume, size_t chunk);
 
-/* Lays the visible finishes of one side of a section, `slice` cells up along the side's normal, into the
-   mask: 0 where no face is visible. The mask needs the slots that stand_chunk_faces needs; those beyond
-   the slice's are 0 after. Past the section's depth the slice has no slots. Refused: 100, 3, 4, 7, 10. */
+/* Lays the visible finishes of one side of a section into the mask, 0 where no face is visible: those of the
+   cells that lie `slice` above the section's lowest along the side's normal axis. The mask is of any contents and
+   needs m slots, m being what stand_chunk_slots answers. After it the slice's slots come first, the others of the
+   first m slots are 0, and slots from m on stay as they were. Past the section's depth the slice has no slots, and
+   the first m are 0. Refused: 100, 3, 4, 7, 10. */
 stand_sliced stand_chunk_slice(stand_volume volume, const uint16_t *cells, size_t cells_count, size_t chunk,
                                uint32_t side, size_t slice, uint32_t rule,
                                uint16_t *mask, size_t mask_count);
 
-/* Takes the next panel of a slice out of a mask: its slots become 0. Start with `from` = 0, go on with the
-   answer's `next` until `given` is 0. A slice with more slots than the mask gives none. Refused: 100. */
+/* Takes the next panel of a slice out of a mask: its slots become 0, all others stay. Start with `from` = 0, go
+   on with the answer's `next` until `given` is 0; the slice's slots are then 0. A slice with more slots than the
+   mask gives none. Refused: 100. */
 stand_panel_given stand_claim(stand_slice slice, uint16_t *mask, size_t mask_count, size_t from);
 
 /* ---- the price sheet: these write the mask, and the sheet ---- */
 
 /* The sheet has three numbers for each section: panels, faces, cents. `rates` has the rate of finish f at
    index f, in cents for a face; entry 0 is not used. The cut is added for each panel. No rate that a visible
-   face needs, and no cut, may be above 1,000,000. The mask is work space of any contents; 256 slots are
-   always enough. */
+   face needs, and no cut, may be above 1,000,000. The mask is work space of any contents. It needs as many slots
+   as the largest side among the sections to be measured has cells; 256 are always enough. That many first slots
+   are 0 after an accepted call, none where no section is measured, and those past them stay as they were.
 
-/* Opens a sheet: every section is measured, and the mark is the generation. To be called anew after
-   stand_open. `mark` is any number; it comes back where the call is refused. Refused: 100, 3, 4, 10, 12; then nothing is written. */
+   A REFRESH DOES NOT SEE THAT THE SHEET IS STALE. Open the sheet anew after each stand_open, and whenever a
+   rate, the cut or the rule is another one. A stand opened anew counts its changes from 0 again, so an old mark
+   may well be one of its own generations; and a mark knows nothing of rates. A refresh with the old mark then
+   answers code 0, and the OLD PRICE stays. Run by example/stale.c: 17 cells in a row of a finish at 100, cut 50,
+   are told at 7500, mark 17. Opened anew and filled with a finish at 900, the stand has generation 17 again: a
+   refresh with mark 17 measures nothing, answers code 0, and stand_totals still says 7500. Measured anew it is
+   63500. The same happens where the stand stays and the rate of its finish goes from 100 to 900. */
+
+/* Opens a sheet: every section is measured, and the mark is the generation. Call it anew after each stand_open,
+   and whenever a rate, the cut or the rule is another one: without it stand_refresh may answer code 0 and leave
+   the old price (see above). `mark` is any number; it comes back where the call is refused.
+   Refused: 100, 3, 4, 10, 12; then nothing is written. */
 stand_marked stand_open_sheet(stand_volume volume, uint64_t mark,
                               const uint16_t *cells, size_t cells_count,
                               const uint32_t *rates, size_t rates_count, uint32_t cut, uint32_t rule,
                               uint16_t *mask, size_t mask_count, uint64_t *sheet, size_t sheet_count);
 
 /* Brings the sheet up to the generation: the sections changed since the mark and those that share a face
-   with one are measured anew, all of them after more changes than sections. Give the mark that the last call
-   answered, and the same rates, cut and rule. Refused: 100, 3, 4, 8, 10, 12; then nothing is written. */
+   with one are measured anew, all of them after more changes than sections. Give the sheet and the mark as the
+   last accepted stand_open_sheet or stand_refresh left them, and the same rates, cut and rule. With a stand opened
+   since, or with another rate, cut or rule, it may answer code 0 all the same while rows keep the old price (see
+   above): call stand_open_sheet instead. Refused: 100, 3, 4, 8, 10, 12; then nothing is written. */
 stand_marked stand_refresh(stand_volume volume, uint64_t mark,
                            const uint16_t *cells, size_t cells_count,
                            const uint32_t *log, size_t log_count, const uint64_t *last, size_t last_count,
                            const uint32_t *rates, size_t rates_count, uint32_t cut, uint32_t rule,
                            uint16_t *mask, size_t mask_count, uint64_t *sheet, size_t sheet_count);
 
-/* The sums of all rows: the price line. It writes nothing. Refused: 3, 4, 13. */
+/* The sums of all rows as the sheet has them: the price line, if it was opened or refreshed after the last edit.
+   It writes nothing and measures nothing. Refused: 3, 4, 13. */
 stand_sums stand_totals(stand_volume volume, const uint64_t *sheet, size_t sheet_count);
 
 #ifdef __cplusplus

@@ -23,12 +23,15 @@ pub enum Fault {
     Mask,
     Tail,
     Claim,
+    /// A header where opening would refuse, or none where it would not; mask slots miscounted.
+    Header,
+    Slots,
     /// A refresh that measures only changed sections, and one that adds a row to the old one.
     Neighbours,
     Added,
 }
 
-pub const ALL: [Fault; 17] = [
+pub const ALL: [Fault; 19] = [
     Fault::Cell,
     Fault::Hash,
     Fault::Version,
@@ -44,6 +47,8 @@ pub const ALL: [Fault; 17] = [
     Fault::Mask,
     Fault::Tail,
     Fault::Claim,
+    Fault::Header,
+    Fault::Slots,
     Fault::Neighbours,
     Fault::Added,
 ];

@@ -126,6 +126,7 @@ pub struct Sums {
 }
 
 unsafe extern "C" {
+    pub fn stand_header(origin: Cell, size: Extent) -> Opened;
     pub fn stand_open(
         origin: Cell,
         size: Extent,
@@ -261,6 +262,7 @@ unsafe extern "C" {
         list: *mut i32,
         list_len: usize,
     ) -> Number;
+    pub fn stand_chunk_slots(volume: Volume, chunk: usize) -> Number;
     pub fn stand_chunk_slice(
         volume: Volume,
         cells: *const u16,

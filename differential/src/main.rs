@@ -33,7 +33,7 @@ use std::process::ExitCode;
 
 const USAGE: &str = "\
 differential              the whole run
-differential --calls N    a run of about N calls, in the same shares
+differential --calls N    the tiers cut to N calls, price sheets and damaged calls in the same share
 differential --seed S     lists made from another seed
 differential --checked    a shorter run that lists the Rust's panics; build it with --profile checked
 differential --sheet      the price sheet's part alone
@@ -41,10 +41,8 @@ differential --scripts N  the program trial with N random scripts (300,000 unles
 differential --lines N    the program quote with N random texts (100,000 unless said)
 differential --self-test  faults put into our side must be found
 differential --bench      times of both sides
-differential --record F   calls with the Rust's answers, written to F for the crate replay";
+differential --record F   calls with the Rust's answers, written behind the worked cases in F";
 
-/// Calls of the three tiers together.
-const CALLS: u64 = 10_002_000;
 const DAMAGED: u64 = 1_000_000;
 const CHECKED: u64 = 200_000;
 
@@ -56,7 +54,8 @@ const PAST_I32: ffi::Extent = ffi::Extent {
 };
 
 struct Args {
-    calls: u64,
+    /// Calls of the tiers, if not all.
+    calls: Option<u64>,
     /// Scripts or texts.
     inputs: Option<u64>,
     seed: u64,
@@ -66,7 +65,7 @@ struct Args {
 
 fn args() -> Option<Args> {
     let mut parsed = Args {
-        calls: CALLS,
+        calls: None,
         inputs: None,
         seed: 1,
         mode: String::new(),
@@ -75,19 +74,15 @@ fn args() -> Option<Args> {
     let mut rest = std::env::args().skip(1).peekable();
     while let Some(arg) = rest.next() {
         match arg.as_str() {
-            "--calls" => parsed.calls = rest.next()?.parse().ok()?,
+            "--calls" => parsed.calls = Some(rest.next()?.parse().ok()?),
             "--seed" => parsed.seed = rest.next()?.parse().ok()?,
-            "--checked" => {
-                parsed.calls = CHECKED;
-                parsed.mode = arg;
-            }
             "--scripts" | "--lines" => {
                 if let Some(next) = rest.next_if(|a| !a.starts_with("--")) {
                     parsed.inputs = Some(next.parse().ok()?);
                 }
                 parsed.mode = arg;
             }
-            "--bench" | "--self-test" | "--sheet" => parsed.mode = arg,
+            "--bench" | "--checked" | "--self-test" | "--sheet" => parsed.mode = arg,
             "--record" => {
                 parsed.file = rest.next()?;
                 parsed.mode = arg;
@@ -124,12 +119,12 @@ fn main() -> ExitCode {
 }
 
 fn self_test(seed: u64) -> bool {
-    selftest::run(seed) & trial::self_test(seed) & quote::self_test(seed)
-}
-
-/// A part's calls in a run cut to `asked` calls of the tiers.
-fn share(calls: u64, asked: u64) -> u64 {
-    (u128::from(calls) * u128::from(asked) / u128::from(CALLS)) as u64
+    let parts = [selftest::run, trial::self_test, quote::self_test];
+    let tested = parts.map(|part| part(seed));
+    let faults: usize = tested.iter().map(|t| t.faults).sum();
+    let found: usize = tested.iter().map(|t| t.found).sum();
+    println!("{faults} faults, {found} found and shrunk");
+    found == faults
 }
 
 /// Whether the Rust was built with overflow checks as wanted.
@@ -150,25 +145,24 @@ fn compare_all(args: &Args, catch: bool) -> bool {
     if !catch {
         report.part("every short list on tiny stands", exhaustive::run);
     }
-    for tier in tiers::TIERS {
-        let mut tier = tier;
-        tier.calls = share(tier.calls, args.calls);
+    let all = if catch { CHECKED } else { tiers::CALLS };
+    let asked = args.calls.unwrap_or(all);
+    for tier in tiers::cut(asked) {
         report.part(tier.name, || tiers::run_tier(&tier, args.seed, catch));
     }
     report.part("opening at its limits", || openings::run(catch));
-    if !catch {
-        sheets(args, &mut report);
-    }
     if catch {
         report.panics();
     } else {
-        damaged(share(DAMAGED, args.calls), args.seed, &mut report);
+        sheets(args, &mut report);
+        damaged(tiers::share(DAMAGED, asked), args.seed, &mut report);
     }
     report.end()
 }
 
 fn sheets(args: &Args, report: &mut Report) {
-    let calls = share(sheet::CALLS, args.calls);
+    let asked = args.calls.unwrap_or(tiers::CALLS);
+    let calls = tiers::share(sheet::CALLS, asked);
     report.part("document 01's example of the price sheet", sheet::example);
     report.part("price sheets of up to 27 sections", || {
         sheet::run(calls, args.seed)

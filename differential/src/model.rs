@@ -1,6 +1,6 @@
 //! Document 01's refusals, worked out in exact numbers apart from both sides.
 
-use crate::ffi::{Cell, Extent, Volume};
+use crate::ffi::{Cell, Extent, Opened, Volume};
 use crate::ours::Storage;
 
 const LAST: i128 = i32::MAX as i128;
@@ -166,6 +166,16 @@ pub fn merged(e: Extent) -> Option<u64> {
     let e = wide(e);
     let product: i128 = e.iter().product();
     (e.iter().all(|n| *n > 0) && product <= LAST).then_some(product as u64)
+}
+
+/// What the header call answers: the header that opening gives, or its refusal by 1 or 2.
+pub fn header(origin: Cell, size: Extent) -> Opened {
+    let code = open_code(origin, size);
+    let volume = match code {
+        0 => opened(origin, size),
+        _ => Volume::default(),
+    };
+    Opened { code, volume }
 }
 
 /// The header that opening gives where it is not refused.

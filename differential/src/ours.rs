@@ -42,6 +42,11 @@ pub fn sections_of(size: Extent) -> usize {
     if count <= 65_536 { count as usize } else { 1 }
 }
 
+/// The header that opening would give.
+pub fn header(origin: Cell, size: Extent) -> Opened {
+    unsafe { ffi::stand_header(origin, size) }
+}
+
 pub fn open(origin: Cell, size: Extent, s: &mut Storage) -> Opened {
     unsafe {
         ffi::stand_open(
@@ -239,6 +244,11 @@ pub fn chunk_faces(
             list.len(),
         )
     }
+}
+
+/// The mask slots that a section wants.
+pub fn chunk_slots(v: Volume, chunk: usize) -> Number {
+    unsafe { ffi::stand_chunk_slots(v, chunk) }
 }
 
 pub fn chunk_slice(

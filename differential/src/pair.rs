@@ -151,6 +151,10 @@ impl Pair {
             return Ok(());
         };
         let code = model::open_code(origin, size);
+        let mut header = ours::header(origin, size);
+        header.code ^= u32::from(self.faulty(Fault::Header));
+        let wanted = model::header(origin, size);
+        self.same(Kind::Answer, "header", header, wanted)?;
         let mut storage = Storage::dirty(ours::sections_of(size));
         let opened = ours::open(origin, size, &mut storage);
         self.same(Kind::Answer, "open", opened.code, code)?;
@@ -262,6 +266,7 @@ impl Pair {
             None => (7, Cell::default()),
         };
         self.same(Kind::Answer, "chunk_origin", (got.code, got.cell), wanted)?;
+        self.slots(chunk)?;
         if there {
             return self.panels(Some(chunk), 1);
         }

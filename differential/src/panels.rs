@@ -123,8 +123,18 @@ impl Pair {
         self.untouched("no such section: mask and list keep")
     }
 
+    /// The mask slots that a section wants.
+    pub fn slots(&mut self, chunk: usize) -> Same {
+        let v = self.volume;
+        let wanted = (chunk < model::sections(v)).then(|| model::want(v, Some(chunk)) as u64);
+        let mut got = ours::chunk_slots(v, chunk);
+        got.value ^= u64::from(self.faulty(Fault::Slots));
+        self.answer("chunk_slots", got, wanted, 7)
+    }
+
     /// The panels of a section gathered by chunk_slice and claim, sides and slices in order.
     pub fn slices(&mut self, chunk: usize, rule: u32) -> Same {
+        self.slots(chunk)?;
         let Some(quads) = self.rust("chunk_faces", |t| t.panels(Some(chunk), rule))? else {
             return Ok(());
         };

@@ -52,6 +52,24 @@ pub const TIERS: [Tier; 3] = [
     },
 ];
 
+/// Calls of the three tiers together.
+pub const CALLS: u64 = TIERS[0].calls + TIERS[1].calls + TIERS[2].calls;
+
+/// Of some calls, the share that a run with `asked` calls in the tiers makes, rounded down.
+pub fn share(calls: u64, asked: u64) -> u64 {
+    (u128::from(calls) * u128::from(asked) / u128::from(CALLS)) as u64
+}
+
+/// The tiers cut to `asked` calls together, in their shares; the first makes what rounding leaves.
+pub fn cut(asked: u64) -> [Tier; 3] {
+    let [_, second, third] = TIERS.map(|tier| share(tier.calls, asked));
+    let calls = [asked - second - third, second, third];
+    [0, 1, 2].map(|i| Tier {
+        calls: calls[i],
+        ..TIERS[i]
+    })
+}
+
 fn turned(size: [i32; 3], rng: &mut Rng) -> Extent {
     let a = rng.below(3) as usize;
     let b = (a + 1 + rng.below(2) as usize) % 3;

@@ -1,7 +1,6 @@
 -- Laws and proofs of `interpreter`.
 pub mod Decoding
 pub mod Example
-pub mod Lines
 pub mod Prices
 pub mod Ran
 pub mod Rooms

@@ -4,7 +4,6 @@ use mathlib.Core.Bool.{true, false, cond}
 use Prim.Native.Nat.{ℕ}
 use native.Mathlib.Omega.{arith}
 use borrow.Author.Tests.{leb-true, le-leb}
-use lib.Dec.{leb}
 use Rattle.stand.proofs.Tests.{both}
 use Rattle.stand.specs.declared.volume.Volume.{Volume}
 use Rattle.interpreter.specs.Room.{Lengths, Room, chunksOf, lentOf, roomFor}

@@ -9,7 +9,6 @@ use Rattle.stand.specs.Storage.{Outcome, State, Storage, joined, outcomeOf, sto
 use Rattle.stand.specs.declared.Cell.{Cell}
 use Rattle.stand.specs.declared.volume.Extent.{Extent}
 use Rattle.stand.specs.declared.volume.Volume.{Volume}
-use Rattle.sheet.specs.Calls as C
 use Rattle.interpreter.specs.Room.{chunksOf, lentOf, wantedOf}
 use Rattle.interpreter.specs.Run.{back, editedOf, fillStep, fillWith, front, held, lengthsIn, machineOf, moved, openStep, openWith, openedTurn, replyOf, setStep, setWith, turnOf}
 use Rattle.interpreter.specs.declared.Machine.{Machine}

@@ -3,7 +3,6 @@ use Prim.Native.Nat.{ℕ, _*_, _≤_}
 use mathlib.Core.Bool.{Bool, cond, _&&_}
 use mathlib.Core.List.{List}
 use lib.Dec.{leb}
-use lib.ListN.{length}
 use Rattle.stand.specs.Opening.{headerCall}
 use Rattle.stand.specs.Read.{ofHeader}
 use Rattle.stand.specs.Refusal.{Answer, gives, refused}
@@ -33,7 +32,7 @@ valueOf (refused n) = 0
 unfoldable pub chunksOf : Volume → ℕ
 chunksOf v = valueOf (ofHeader v (sections (shapeOf v)))
 
--- the sections that an opening asks for, none where 1 or 2 turns it back
+-- the sections that an opening asks for, none where 1 or 2 refuses it
 abbrev pub chunksIn : Answer Volume → ℕ
 chunksIn (gives v) = chunksOf v
 chunksIn (refused n) = 0
@@ -59,7 +58,7 @@ roomFor n l =
     leb n 4
     && (leb (n * 4096) (l .cells) && (leb n (l .hashes) && (leb n (l .versions) && (leb n (l .log) && (leb n (l .last) && leb (n * 3) (l .sheet))))))
 
--- the sections lent: without room none, and storage of length 0 is turned back by 4
+-- the sections lent: without room none, and storage of length 0 is refused by 4
 unfoldable pub lentOf : ℕ → Lengths → ℕ
 lentOf n l = cond (roomFor n l) n 0
 

@@ -1,5 +1,6 @@
 -- A whole script, from its bytes to the lines that it prints: document 01, 'Trial program'.
 use Prim.Native.Nat.{ℕ, zero, suc}
+use mathlib.Core.Bool.{Bool, true, false, cond}
 use mathlib.Core.List.{List, [], _∷_, _++_}
 use lib.ListN.{drop, length, replicate}
 use Rattle.interpreter.specs.Decode.{decodeOf, lengthOf}
@@ -25,12 +26,16 @@ stepOf m l b = decodedStep m l (decodeOf b)
 
 -- ---- all of them: the program is a loop of `step` and `write_line`
 
--- nothing after a line that says `broken`
-unfoldable pub unlessBroken : Reply → List ℕ → List ℕ
-unlessBroken R.Quiet later = later
-unlessBroken (R.Price generation row) later = later
-unlessBroken (R.Refused number) later = later
-unlessBroken R.Broken later = []
+-- where a script stops: after a call that is broken
+abbrev pub isBroken : Reply → Bool
+isBroken R.Quiet = false
+isBroken (R.Price generation row) = false
+isBroken (R.Refused number) = false
+isBroken R.Broken = true
+
+-- what is printed after a reply
+abbrev pub unlessBroken : Reply → List ℕ → List ℕ
+unlessBroken r later = cond (isBroken r) [] later
 
 -- the line of a step, and what the steps after it print
 abbrev pub followed : After → (Machine → Lists → List ℕ) → List ℕ

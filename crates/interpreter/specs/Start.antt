@@ -9,7 +9,7 @@ use Rattle.interpreter.specs.declared.Machine.{Machine}
 abbrev pub unset : ℕ
 unset = 4294967295
 
--- a header that no opening gives, so that 3 turns calls back
+-- a header that no opening gives, so that 3 refuses calls
 abbrev pub noVolume : Volume
 noVolume =
     record {

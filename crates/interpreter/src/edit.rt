@@ -1,6 +1,5 @@
 // Opening, setting and filling, on the part of the storage that the stand has.
 ghost use mathlib.Core.Path.{_≡_};
-ghost use lib.ListN.{length};
 ghost use Rattle.stand.specs.Answer.{numberAnswer, setAnswer, volumeAnswer};
 ghost use Rattle.stand.specs.Storage.{storageOf};
 ghost use Rattle.interpreter.specs.Run.{editedOf, fillStep, machineOf, openStep, openedTurn, replyOf, setStep, turnOf};

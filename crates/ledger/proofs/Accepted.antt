@@ -1,4 +1,4 @@
--- A call that measures, accepted or turned back.
+-- A call that measures, accepted or refused.
 use mathlib.Core.Path.{_≡_, refl, ap, _∙_}
 use mathlib.Core.Bool.{Bool, true, false≢true}
 use mathlib.Core.List.{List}

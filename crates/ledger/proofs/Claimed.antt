@@ -1,203 +1,190 @@
 -- The claim about every list of calls, proved.
 use mathlib.Core.Path.{_≡_, refl, sym, ap, _∙_, subst}
-use mathlib.Core.Logic.{_⊎_, inl}
-use mathlib.Core.Bool.{true}
+use mathlib.Core.Bool.{true, false≢true}
 use mathlib.Core.List.{List, [], _∷_, _++_}
 use mathlib.Core.Option.{Option, none, some}
 use Prim.Native.Nat.{ℕ, _-_, _≤_, _<_}
 use native.Mathlib.Omega.{arith}
-use Rattle.stand.specs.Shape.{Ranged, Shape, opens, sections}
-use Rattle.stand.specs.Storage.{Storage, lengthsOf, storage}
+use Rattle.stand.specs.Opening as O
+use Rattle.stand.specs.Opening.{Opening, openedShape}
+use Rattle.stand.specs.Shape.{sections}
+use Rattle.stand.specs.Storage.{Storage, freshState, joined, lengthsOf, storage}
+use Rattle.stand.specs.declared.volume.Extent.{Extent}
 use Rattle.sheet.specs.Card.{Terms}
 use Rattle.sheet.specs.Rows.{rowAt}
-use Rattle.sheet.specs.declared.Marks.{Marks}
-use Rattle.ledger.specs.Book.{Book, openBook}
-use Rattle.ledger.specs.Calls.{Call, Four, Op, accepted, book, feed, given, opensOther, run, step, unfit, write}
-use Rattle.ledger.specs.Claim.{All, Claim, Keeps, Lent, LentAnew, Listed, Own, Right, RowsKept, SumsRight, fresh}
-use Rattle.ledger.proofs.Kept.{call, tells-step}
+use Rattle.ledger.specs.Book.{Book, openBook, writeOpen}
+use Rattle.ledger.specs.Calls as C
+use Rattle.ledger.specs.Calls.{Call, Effect, Four, Op, Origin, accepted, book, call, effectOf, feed, given, headerAfter, isGiven, leftBy, orElse, ownAfter, result, run, step, write}
+use Rattle.ledger.specs.Claim.{All, Claim, Keeps, Lent, Priced, Right, Spared, Start, bookAfter, fourAfter}
+use Rattle.ledger.proofs.Kept.{AcceptedBy, stepBy, tells-step}
 use Rattle.ledger.proofs.Measured.{mark-count, row-kept}
-use Rattle.ledger.proofs.Opened.{shows-opened, shows-refreshed, shows-step}
+use Rattle.ledger.proofs.Opened.{Showing, shows-opened, shows-refreshed, shows-step}
 use Rattle.ledger.proofs.Right.{right}
 use Rattle.ledger.proofs.Sheeted.{refresh-measures}
-use Rattle.ledger.proofs.Shows.{Clean, Shows}
+use Rattle.ledger.proofs.Shows.{Clean}
 use Rattle.ledger.proofs.Since.{none-todo}
-use Rattle.ledger.proofs.Tells.{Tells, tells-fresh}
+use Rattle.ledger.proofs.Tells.{Tells, by-opening, open-passed, tells-fresh}
 
 -- ---- one list after another
 
-run-append : (s : Four) (xs ys : List Call) → run s (xs ++ ys) ≡ run (run s xs) ys
+pub run-append : (s : Four) (xs ys : List Call) → run s (xs ++ ys) ≡ run (run s xs) ys
 unfolding run
 run-append s [] ys = refl
 run-append s (c ∷ xs) ys = run-append (step s c) xs ys
 
-book-append : (s : Four) (b : Book) (xs ys : List Call) → book b (feed s (xs ++ ys)) ≡ book (book b (feed s xs)) (feed (run s xs) ys)
+pub book-append : (s : Four) (b : Book) (xs ys : List Call) → book b (feed s (xs ++ ys)) ≡ book (book b (feed s xs)) (feed (run s xs) ys)
 unfolding run book feed
 book-append s b [] ys = refl
-book-append s b (c ∷ xs) ys = book-append (step s c) (write b (lengthsOf (storage (given s c .state))) (c .op)) xs ys
+book-append s b (c ∷ xs) ys = book-append (step s c) (write b (lengthsOf (storage (given s c .state))) (effectOf (c .op))) xs ys
 
-all-append : (P : Four → Call → Type 0) (s : Four) (xs ys : List Call) → All P s (xs ++ ys) → All P s xs × All P (run s xs) ys
-unfolding All run
-all-append P s [] ys a = (tt, a)
-all-append P s (c ∷ xs) ys a = let r = all-append P (step s c) xs ys (a .1) in ((a .0, r .0), r .1)
+module _ (P : Four → Call → Type 0) where
+  pub all-append : (s : Four) (xs ys : List Call) → All P s (xs ++ ys) → All P s xs × All P (run s xs) ys
+  unfolding All run
+  all-append s [] ys a = (tt, a)
+  all-append s (c ∷ xs) ys a = let r = all-append (step s c) xs ys (a .1) in ((a .0, r .0), r .1)
+
+  pub append-all : (s : Four) (xs ys : List Call) → All P s xs → All P (run s xs) ys → All P s (xs ++ ys)
+  unfolding All run
+  append-all s [] ys a b = b
+  append-all s (c ∷ xs) ys a b = (a .0, append-all (step s c) xs ys (a .1) b)
 
 -- ---- what holds after a list
 
-tells-run : (s : Four) (b : Book) (cs : List Call) → All LentAnew s cs → Tells (s .state) b → Tells (run s cs .state) (book b (feed s cs))
+pub tells-run : (s : Four) (b : Book) (cs : List Call) → All Lent s cs → Tells (s .state) b → Tells (run s cs .state) (book b (feed s cs))
 unfolding run book feed All
 tells-run s b [] a k = k
-tells-run s b (c ∷ cs) a k = tells-run (step s c) (write b (lengthsOf (storage (given s c .state))) (c .op)) cs (a .1) (tells-step s b c (a .0) k)
+tells-run s b (c ∷ cs) a k = tells-run (step s c) (write b (lengthsOf (storage (given s c .state))) (effectOf (c .op))) cs (a .1) (tells-step s b c (a .0) k)
 
--- what the four show of the book
-abbrev Showing : Terms → Four → Book → Type 0
-Showing t s b = Shows t (s .marks .sheet) (s .sheet) b
-
-shows-run : (t : Terms) (s : Four) (b : Book) (cs : List Call) → All LentAnew s cs → All (Keeps t) s cs → Tells (s .state) b → Showing t s b
+pub shows-run : (t : Terms) (s : Four) (b : Book) (cs : List Call) → All Lent s cs → All (Keeps t) s cs → Tells (s .state) b → Showing t s b
     → Showing t (run s cs) (book b (feed s cs))
 unfolding run book feed All
 shows-run t s b [] a n k h = h
 shows-run t s b (c ∷ cs) a n k h =
-    shows-run t (step s c) (write b (lengthsOf (storage (given s c .state))) (c .op)) cs (a .1) (n .1) (tells-step s b c (a .0) k)
+    shows-run t (step s c) (write b (lengthsOf (storage (given s c .state))) (effectOf (c .op))) cs (a .1) (n .1) (tells-step s b c (a .0) k)
     (shows-step s b c t (a .0) (n .0) k h)
 
 -- ---- from a state that tells the book
 
-module _ (s : Four) (b : Book) (k : Tells (s .state) b) (t : Terms) (m : List ℕ) (st : Option Storage) (l : Option (List ℕ)) where
-  -- a sheet opened there, and calls that keep to its terms
-  opened-run : (ys : List Call) → All LentAnew s (call st l (Op.openSheet t m) ∷ ys) → accepted s (call st l (Op.openSheet t m)) ≡ true
-      → All (Keeps t) (step s (call st l (Op.openSheet t m))) ys
-      → Showing t (run s (call st l (Op.openSheet t m) ∷ ys)) (book b (feed s (call st l (Op.openSheet t m) ∷ ys)))
-  unfolding run book feed write All
-  opened-run ys a e n =
-      shows-run t (step s (call st l (Op.openSheet t m))) b ys (a .1) n (tells-step s b (call st l (Op.openSheet t m)) (a .0) k)
-      (shows-opened s b k t m st l (a .0) e)
+-- opening and refresh of the sheet write nothing into the book
+sheet-writes : (b : Book) (t : Terms) (m : List ℕ) (c : Call) (s : Four) → effectOf (c .op) ≡ Effect.opensSheet t m → book b (feed s (c ∷ [])) ≡ b
+unfolding book feed write
+sheet-writes b t m c s p = ap (write b (lengthsOf (storage (given s c .state)))) p
 
-  module _ (w : LentAnew s (call st l (Op.refresh t m))) (e : accepted s (call st l (Op.refresh t m)) ≡ true) where
+refresh-writes : (b : Book) (t : Terms) (m : List ℕ) (c : Call) (s : Four) → effectOf (c .op) ≡ Effect.refreshes t m → book b (feed s (c ∷ [])) ≡ b
+unfolding book feed write
+refresh-writes b t m c s p = ap (write b (lengthsOf (storage (given s c .state)))) p
+
+module _ (s : Four) (b : Book) (k : Tells (s .state) b) (t : Terms) (m : List ℕ) (c : Call) where
+  -- a sheet opened there
+  pub opened-shows : effectOf (c .op) ≡ Effect.opensSheet t m → Lent s c → accepted s c ≡ true → Showing t (run s (c ∷ [])) (book b (feed s (c ∷ [])))
+  unfolding run book feed
+  opened-shows p w e = subst (Showing t (step s c)) (sym (sheet-writes b t m c s p)) (shows-opened s b k t m c p w e)
+
+  -- and calls that keep to its terms
+  later-run : (ys : List Call) → effectOf (c .op) ≡ Effect.opensSheet t m → All Lent s (c ∷ ys) → accepted s c ≡ true → All (Keeps t) (run s (c ∷ [])) ys
+      → Showing t (run s (c ∷ ys)) (book b (feed s (c ∷ ys)))
+  unfolding run book feed All
+  later-run ys p w e n =
+      shows-run t (step s c) (write b (lengthsOf (storage (given s c .state))) (effectOf (c .op))) ys (w .1) n (tells-step s b c (w .0) k)
+      (opened-shows p (w .0) e)
+
+  module _ (p : effectOf (c .op) ≡ Effect.refreshes t m) (w : Lent s c) (e : accepted s c ≡ true) where
     -- just after a refresh
-    refreshed : Showing t s b → Right t (step s (call st l (Op.refresh t m))) b
-    unfolding write
+    refreshed : Showing t s b → Right t (run s (c ∷ [])) (book b (feed s (c ∷ [])))
+    unfolding run book feed
     refreshed h =
-        right t (step s (call st l (Op.refresh t m))) b (tells-step s b (call st l (Op.refresh t m)) w k) (shows-refreshed s b k t m st l w e h)
-        (mark-count k (refresh-measures s t m st l w e .0))
+        let q : write b (lengthsOf (storage (given s c .state))) (effectOf (c .op)) ≡ b = refresh-writes b t m c s p in
+        subst (Right t (step s c)) (sym q)
+        (right t (step s c) b (subst (Tells (step s c .state)) q (tells-step s b c w k)) (shows-refreshed s b k t m c p w e h)
+        (mark-count k (refresh-measures s t m c p w e .0)))
 
     -- and a row that is clean keeps its numbers
     kept : (i : ℕ) → i < sections (b .shape) → Clean b (s .marks .sheet) i → b .count - s .marks .sheet ≤ sections (b .shape)
-        → rowAt (step s (call st l (Op.refresh t m)) .sheet) i ≡ rowAt (s .sheet) i
+        → rowAt (run s (c ∷ []) .sheet) i ≡ rowAt (s .sheet) i
+    unfolding run
     kept i h clean lag =
-        let r = refresh-measures s t m st l w e in
+        let r = refresh-measures s t m c p w e in
         let behind : s .marks .sheet ≤ b .count = omega (arith, r .1, k .count-is) in
         row-kept k (r .0) i h (none-todo (s .state) b k (s .marks .sheet) behind lag i clean)
 
--- ---- from a stand just opened
+-- ---- the first call
 
-module _ (g : Shape) (k : Marks) (l : List ℕ) where
-  abbrev start : Four
-  start = fresh g k l
+module _ (s : Four) (p : Origin) (size : Extent) where
+  -- the state that an accepted opening leaves
+  abbrev Fresh : Option Storage → Opening → Book → Type 0
+  Fresh st r b =
+      isGiven (r .answer) ≡ true
+      → Tells (joined (headerAfter (r .answer) (s .state .volume)) (ownAfter st (isGiven (r .answer)) (storage (s .state)) (r .storage))) (openBook (openedShape (p .cell) size))
 
-  abbrev bookOf : List Call → Book
-  bookOf cs = book (openBook g) (feed start cs)
+  fresh-so : (st : Option Storage) → Fresh st (O.openCall (orElse st (storage (s .state))) (p .cell) size) (openBook (openedShape (p .cell) size))
+  unfolding freshState openedShape writeOpen
+  fresh-so none =
+      by-opening (λ r b. Fresh none r b) (storage (s .state)) (openBook (openedShape (p .cell) size)) (p .cell) size (λ n e. absurd (false≢true e))
+      (λ z e. tells-fresh (openedShape (p .cell) size) (open-passed (p .cell) size (lengthsOf (storage (s .state))) z .0) (p .ranged))
+  fresh-so (some st) =
+      by-opening (λ r b. Fresh (some st) r b) st (openBook (openedShape (p .cell) size)) (p .cell) size (λ n e. absurd (false≢true e))
+      (λ z e. tells-fresh (openedShape (p .cell) size) (open-passed (p .cell) size (lengthsOf st) z .0) (p .ranged))
 
-  module _ (o : opens g ≡ true) (r : Ranged (g .origin)) where
-    tells-after : (cs : List Call) → All LentAnew start cs → Tells (run start cs .state) (bookOf cs)
-    unfolding fresh
-    tells-after cs a = tells-run start (openBook g) cs a (tells-fresh g o r)
+  abbrev Opened : Call → Effect → Type 0
+  Opened c e = AcceptedBy s c e → Tells (stepBy s c e .state) (openBook (openedShape (p .cell) size))
 
-    shows-after-list : (xs ys : List Call) (t : Terms) (m : List ℕ) (st : Option Storage) (li : Option (List ℕ))
-        → All LentAnew start (xs ++ (call st li (Op.openSheet t m) ∷ ys)) → accepted (run start xs) (call st li (Op.openSheet t m)) ≡ true
-        → All (Keeps t) (step (run start xs) (call st li (Op.openSheet t m))) ys
-        → Showing t (run start (xs ++ (call st li (Op.openSheet t m) ∷ ys))) (bookOf (xs ++ (call st li (Op.openSheet t m) ∷ ys)))
-    shows-after-list xs ys t m st li a e n =
-        let c = call st li (Op.openSheet t m) in
-        let p = all-append LentAnew start xs (c ∷ ys) a in
-        rw (run-append start xs (c ∷ ys), book-append start (openBook g) xs (c ∷ ys))
-        (opened-run (run start xs) (bookOf xs) (tells-after xs (p .0)) t m st li ys (p .1) e n)
+  opened-so : (st : Option Storage) (l : Option (List ℕ)) (o : Op) → Opened (call st l o) (Effect.opensStand p size)
+  unfolding leftBy given result C.opened
+  opened-so st l o e = fresh-so st e
 
-  -- one more call
-  run-snoc : (cs : List Call) (c : Call) → run start (cs ++ (c ∷ [])) ≡ step (run start cs) c
-  unfolding run
-  run-snoc cs c = run-append start cs (c ∷ [])
+tells-start : (a : Start) → Tells (fourAfter a [] .state) (bookAfter a [])
+unfolding fourAfter bookAfter run book feed step accepted
+tells-start a =
+    subst (Opened (a .four) (a .origin) (a .size) (a .first)) (sym (a .opens))
+    (opened-so (a .four) (a .origin) (a .size) (a .first .storage) (a .first .sheet) (a .first .op)) (a .is-accepted)
 
-  -- a refresh changes nothing in the book
-  book-snoc : (cs : List Call) (t : Terms) (m : List ℕ) (st : Option Storage) (li : Option (List ℕ)) → bookOf (cs ++ (call st li (Op.refresh t m) ∷ [])) ≡ bookOf cs
-  unfolding book feed write
-  book-snoc cs t m st li = book-append start (openBook g) cs (call st li (Op.refresh t m) ∷ [])
+module _ (a : Start) where
+  pub after-append : (xs ys : List Call) → fourAfter a (xs ++ ys) ≡ run (fourAfter a xs) ys
+  unfolding fourAfter
+  after-append xs ys = run-append (step (a .four) (a .first)) xs ys
 
-  last-lent : (cs : List Call) (c : Call) → All LentAnew start (cs ++ (c ∷ [])) → All LentAnew start cs × LentAnew (run start cs) c
+  pub written-append : (xs ys : List Call) → bookAfter a (xs ++ ys) ≡ book (bookAfter a xs) (feed (fourAfter a xs) ys)
+  unfolding fourAfter bookAfter
+  written-append xs ys = book-append (step (a .four) (a .first)) (openBook (openedShape (a .origin .cell) (a .size))) xs ys
+
+  pub lent-append : (P : Four → Call → Type 0) (xs ys : List Call) → All P (fourAfter a []) (xs ++ ys) → All P (fourAfter a []) xs × All P (fourAfter a xs) ys
+  unfolding fourAfter run
+  lent-append P xs ys = all-append P (step (a .four) (a .first)) xs ys
+
+  pub tells-after : (cs : List Call) → All Lent (fourAfter a []) cs → Tells (fourAfter a cs .state) (bookAfter a cs)
+  unfolding fourAfter bookAfter run book feed
+  tells-after cs w = tells-run (step (a .four) (a .first)) (openBook (openedShape (a .origin .cell) (a .size))) cs w (tells-start a)
+
+  -- a sheet opened after xs, and calls that keep to its terms
+  pub shows-later : (t : Terms) (m : List ℕ) (xs : List Call) (opening : Call) (ys : List Call) → All Lent (fourAfter a []) (xs ++ (opening ∷ ys))
+      → effectOf (opening .op) ≡ Effect.opensSheet t m → accepted (fourAfter a xs) opening ≡ true → All (Keeps t) (fourAfter a (xs ++ (opening ∷ []))) ys
+      → Showing t (fourAfter a (xs ++ (opening ∷ ys))) (bookAfter a (xs ++ (opening ∷ ys)))
+  shows-later t m xs opening ys w p e n =
+      let q = lent-append Lent xs (opening ∷ ys) w in
+      let k = tells-after xs (q .0) in
+      rw (after-append xs (opening ∷ ys), written-append xs (opening ∷ ys))
+      (later-run (fourAfter a xs) (bookAfter a xs) k t m opening ys p (q .1) e (subst (λ (s : Four). All (Keeps t) s ys) (after-append xs (opening ∷ [])) n))
+
+  -- one call more
+  pub lent-last : (xs : List Call) (c : Call) → All Lent (fourAfter a []) (xs ++ (c ∷ [])) → All Lent (fourAfter a []) xs × Lent (fourAfter a xs) c
   unfolding All
-  last-lent cs c a = let p = all-append LentAnew start cs (c ∷ []) a in (p .0, p .1 .0)
+  lent-last xs c w = let q = lent-append Lent xs (c ∷ []) w in (q .0, q .1 .0)
 
-  module _ (t : Terms) where
-    abbrev SumsAt : List Call → List Call → Call → Call → Type 0
-    SumsAt xs ys opening last =
-        Listed LentAnew g k l (xs ++ (opening ∷ ys) ++ (last ∷ [])) → accepted (run start xs) opening ≡ true
-        → All (Keeps t) (run start (xs ++ (opening ∷ []))) ys → accepted (run start (xs ++ (opening ∷ ys))) last ≡ true
-        → Right t (run start (xs ++ (opening ∷ ys) ++ (last ∷ []))) (bookOf (xs ++ (opening ∷ ys) ++ (last ∷ [])))
+  sums-right : (xs : List Call) (opening : Call) (ys : List Call) (last : Call) (t : Terms) → Priced a xs opening ys last t
+      → Right t (fourAfter a (xs ++ (opening ∷ ys) ++ (last ∷ []))) (bookAfter a (xs ++ (opening ∷ ys) ++ (last ∷ [])))
+  sums-right xs opening ys last t h =
+      let cs = xs ++ (opening ∷ ys) in
+      let q = lent-last cs last (h .lent) in
+      rw (after-append cs (last ∷ []), written-append cs (last ∷ []))
+      (refreshed (fourAfter a cs) (bookAfter a cs) (tells-after cs (q .0)) t (h .lastMask) last (h .refreshes) (q .1) (h .refreshed)
+      (shows-later t (h .mask) xs opening ys (q .0) (h .opens) (h .opened) (h .keeps)))
 
-    sums-at : (xs ys : List Call) (m m′ : List ℕ) (st st′ : Option Storage) (li li′ : Option (List ℕ))
-        → SumsAt xs ys (call st li (Op.openSheet t m)) (call st′ li′ (Op.refresh t m′))
-    sums-at xs ys m m′ st st′ li li′ h e n y =
-        let a = call st li (Op.openSheet t m) in
-        let c = call st′ li′ (Op.refresh t m′) in
-        let cs = xs ++ (a ∷ ys) in
-        let p = last-lent cs c (h .lent) in
-        rw (run-snoc cs c, book-snoc cs t m′ st′ li′)
-        (refreshed (run start cs) (bookOf cs) (tells-after (h .opened) (h .ranged) cs (p .0)) t m′ st′ li′ (p .1) y
-        (shows-after-list (h .opened) (h .ranged) xs ys t m st li (p .0) e (subst (λ (s : Four). All (Keeps t) s ys) (run-snoc xs a) n)))
-
-    abbrev KeptAt : List Call → ℕ → Call → Type 0
-    KeptAt xs i last =
-        Listed LentAnew g k l (xs ++ (last ∷ [])) → accepted (run start xs) last ≡ true → i < sections (bookOf xs .shape)
-        → Clean (bookOf xs) (run start xs .marks .sheet) i → bookOf xs .count - run start xs .marks .sheet ≤ sections (bookOf xs .shape)
-        → rowAt (run start (xs ++ (last ∷ [])) .sheet) i ≡ rowAt (run start xs .sheet) i
-
-    kept-at : (xs : List Call) (i : ℕ) (m : List ℕ) (st : Option Storage) (li : Option (List ℕ)) → KeptAt xs i (call st li (Op.refresh t m))
-    kept-at xs i m st li h e li′ clean lag =
-        let c = call st li (Op.refresh t m) in
-        let p = last-lent xs c (h .lent) in
-        ap (λ (s : Four). rowAt (s .sheet) i) (run-snoc xs c)
-        ∙ kept (run start xs) (bookOf xs) (tells-after (h .opened) (h .ranged) xs (p .0)) t m st li (p .1) e i li′ clean lag
-
--- ---- lists of calls that may also open a stand or a sheet on other lists
-
-sums-right : SumsRight LentAnew
-unfolding SumsRight
-sums-right g k l xs ys t opening last m m′ eo el =
-    subst (λ (c : Call). SumsAt g k l t xs ys c last) (λ i. call (opening .storage) (opening .sheet) (sym eo i))
-    (subst (λ (c : Call). SumsAt g k l t xs ys (call (opening .storage) (opening .sheet) (Op.openSheet t m)) c) (λ i. call (last .storage) (last .sheet) (sym el i))
-    (sums-at g k l t xs ys m m′ (opening .storage) (last .storage) (opening .sheet) (last .sheet)))
-
-rows-kept : RowsKept LentAnew
-unfolding RowsKept
-rows-kept g k l xs t last m i e =
-    subst (λ (c : Call). KeptAt g k l t xs i c) (λ j. call (last .storage) (last .sheet) (sym e j)) (kept-at g k l t xs i m (last .storage) (last .sheet))
-
--- ---- and as demanded
-
-pub lent-anew : (s : Four) (c : Call) → Lent s c → LentAnew s c
-unfolding Lent LentAnew
-lent-anew s c w = (w .0, own (c .storage) (c .sheet) (w .1))
-  where
-    own : (st : Option Storage) (l : Option (List ℕ)) → Own st l (unfit (given s c) (c .op) ≡ true)
-        → Own st l ((unfit (given s c) (c .op) ≡ true) ⊎ (opensOther (c .storage) (c .sheet) (c .op) ≡ true))
-    own none none w = tt
-    own none (some l) w = inl w
-    own (some st) l w = inl w
-
-all-anew : (s : Four) (cs : List Call) → All Lent s cs → All LentAnew s cs
-unfolding All
-all-anew s [] a = tt
-all-anew s (c ∷ cs) a = (lent-anew s c (a .0), all-anew (step s c) cs (a .1))
-
-listed-anew : (g : Shape) (k : Marks) (l : List ℕ) (cs : List Call) → Listed Lent g k l cs → Listed LentAnew g k l cs
-listed-anew g k l cs h = record { opened = h .opened; ranged = h .ranged; lent = all-anew (fresh g k l) cs (h .lent) }
+  rows-kept : (xs : List Call) (last : Call) (i : ℕ) → Spared a xs last i → rowAt (fourAfter a (xs ++ (last ∷ [])) .sheet) i ≡ rowAt (fourAfter a xs .sheet) i
+  rows-kept xs last i h =
+      let q = lent-last xs last (h .lent) in
+      ap (λ (s : Four). rowAt (s .sheet) i) (after-append xs (last ∷ []))
+      ∙ kept (fourAfter a xs) (bookAfter a xs) (tells-after xs (q .0)) (h .terms) (h .mask) last (h .refreshes) (q .1) (h .refreshed) i (h .within) (h .clean) (h .few)
 
 -- demand 3
 pub claim : Claim
-unfolding SumsRight RowsKept
-claim =
-    record {
-      sums-right = λ g k l xs ys t opening last m m′ eo el h.
-          sums-right g k l xs ys t opening last m m′ eo el (listed-anew g k l (xs ++ (opening ∷ ys) ++ (last ∷ [])) h);
-      rows-kept = λ g k l xs t last m i e h. rows-kept g k l xs t last m i e (listed-anew g k l (xs ++ (last ∷ [])) h);
-      sums-right-anew = sums-right;
-      rows-kept-anew = rows-kept;
-    }
+claim = record { sums-right = sums-right; rows-kept = rows-kept }

@@ -2,6 +2,7 @@
 use mathlib.Core.Path.{_≡_, refl, sym, ap, _∙_}
 use mathlib.Core.Bool.{Bool, true, false, cond, not, _&&_, _||_}
 use mathlib.Core.List.{List}
+use mathlib.Core.Option.{Option, none}
 use Prim.Native.Nat.{ℕ, zero, suc, _-_, _*_, _≤_, min}
 use native.Mathlib.Nat.{mul-le-mul}
 use native.Mathlib.Omega.{arith}
@@ -26,7 +27,7 @@ use Rattle.sheet.specs.Due.{todo}
 use Rattle.sheet.specs.Row.{priced, slicePriced}
 use Rattle.sheet.specs.declared.Marks.{Marks}
 use Rattle.ledger.specs.Book.{Book}
-use Rattle.ledger.specs.Calls.{Four, Op, accepted, given, isDone, own, result, sheeted}
+use Rattle.ledger.specs.Calls.{Four, Op, accepted, call, given, isDone, orElse, own, result, sheeted}
 use Rattle.ledger.proofs.Tells.{Tells}
 
 -- ---- the mask
@@ -73,7 +74,7 @@ module _ (t : Terms) (g : Shape) (f : Cell → ℕ) (h : Paid t g f) where
       either true b e = e
       either false b e = refl
 
--- ---- so nothing turns the call back
+-- ---- so nothing refuses the call
 
 pub record Enough (t : Terms) (b : Book) (m : List ℕ) : Type 0 where
   pub mask : 256 ≤ length m
@@ -93,35 +94,37 @@ done-at : (n : ℕ) (t : Terms) (v : Volume) (f : Cell → ℕ) (p : ℕ → Boo
 unfolding measuring
 done-at n t v f p k m l e = ap (λ (n : ℕ). isDone (measuring n t v f p k m l .verdict)) e
 
-module _ (s : Four) (b : Book) (k : Tells (s .state) b) (t : Terms) (m : List ℕ) (h : Enough t b m) (len : length (s .sheet) ≡ sections (b .shape) * 3) where
+module _ (s : Four) (b : Book) (k : Tells (s .state) b) (t : Terms) (m : List ℕ) (h : Enough t b m) where
   paid-too : Paid t (shape (s .state)) (look (shape (s .state)) (s .state .cells))
   paid-too c i =
       let e : inside (b .shape) c ≡ true = ap (λ (g : Shape). inside g c) (sym (k .shape-is)) ∙ i in
       ap (payable (t .rates)) (k .cells-are c e) ∙ h .paid c e
 
-  sheet-fits : eqb (length (s .sheet)) (sections (shape (s .state)) * 3) ≡ true
-  sheet-fits = eq-eqb _ _ (len ∙ ap (λ (g : Shape). sections g * 3) (sym (k .shape-is)))
+  sheet-fits : (l : List ℕ) → length l ≡ sections (b .shape) * 3 → eqb (length l) (sections (shape (s .state)) * 3) ≡ true
+  sheet-fits l len = eq-eqb _ _ (len ∙ ap (λ (g : Shape). sections g * 3) (sym (k .shape-is)))
 
-  fits-open : openFits (sections (shape (s .state))) (length (s .state .cells)) (length (s .sheet)) ≡ true
+  fits-open : (l : List ℕ) → length l ≡ sections (b .shape) * 3 → openFits (sections (shape (s .state))) (length (s .state .cells)) (length l) ≡ true
   unfolding openFits
-  fits-open = rw (eq-eqb _ _ (fitting-lengths (s .state) (k .fits) .cells)) sheet-fits
+  fits-open l len = rw (eq-eqb _ _ (fitting-lengths (s .state) (k .fits) .cells)) (sheet-fits l len)
 
-  fits-refresh : refreshFits (sections (shape (s .state))) (length (s .state .cells)) (length (s .state .log)) (length (s .state .last)) (length (s .sheet)) ≡ true
+  fits-refresh : length (s .sheet) ≡ sections (b .shape) * 3
+      → refreshFits (sections (shape (s .state))) (length (s .state .cells)) (length (s .state .log)) (length (s .state .last)) (length (s .sheet)) ≡ true
   unfolding refreshFits
-  fits-refresh =
+  fits-refresh len =
       let l = fitting-lengths (s .state) (k .fits) in
-      rw (eq-eqb _ _ (l .cells), eq-eqb _ _ (l .log), eq-eqb _ _ (l .last)) sheet-fits
+      rw (eq-eqb _ _ (l .cells), eq-eqb _ _ (l .log), eq-eqb _ _ (l .last)) (sheet-fits (s .sheet) len)
 
-  pub open-accepted : accepted s (own (Op.openSheet t m)) ≡ true
+  pub open-accepted : (l : Option (List ℕ)) → length (orElse l (s .sheet)) ≡ sections (b .shape) * 3 → accepted s (call none l (Op.openSheet t m)) ≡ true
   unfolding accepted given result sheeted S.openCall
-  open-accepted =
-      done-at _ t (s .state .volume) (look (shape (s .state)) (s .state .cells)) every (s .marks) m (s .sheet)
-      (none-applies t (s .state .volume) (look (shape (s .state)) (s .state .cells)) every _ false (length m) (k .formed) fits-open refl (h .mask) (h .cut) paid-too)
+  open-accepted l len =
+      done-at _ t (s .state .volume) (look (shape (s .state)) (s .state .cells)) every (s .marks) m (orElse l (s .sheet))
+      (none-applies t (s .state .volume) (look (shape (s .state)) (s .state .cells)) every _ false (length m) (k .formed)
+      (fits-open (orElse l (s .sheet)) len) refl (h .mask) (h .cut) paid-too)
 
-  pub refresh-accepted : s .marks .sheet ≤ b .count → accepted s (own (Op.refresh t m)) ≡ true
+  pub refresh-accepted : length (s .sheet) ≡ sections (b .shape) * 3 → s .marks .sheet ≤ b .count → accepted s (own (Op.refresh t m)) ≡ true
   unfolding accepted given result sheeted S.refreshCall
-  refresh-accepted le =
+  refresh-accepted len le =
       let p : ℕ → Bool = todo (shape (s .state)) (s .state .log) (s .state .last) (s .marks .sheet) (s .state .volume .generation) in
       done-at _ t (s .state .volume) (look (shape (s .state)) (s .state .cells)) p (s .marks) m (s .sheet)
-      (none-applies t (s .state .volume) (look (shape (s .state)) (s .state .cells)) p _ _ (length m) (k .formed) fits-refresh
+      (none-applies t (s .state .volume) (look (shape (s .state)) (s .state .cells)) p _ _ (length m) (k .formed) (fits-refresh len)
       (le-ltb (s .state .volume .generation) (s .marks .sheet) (omega (arith, k .count-is))) (h .mask) (h .cut) paid-too)

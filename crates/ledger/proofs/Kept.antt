@@ -1,7 +1,6 @@
 -- Each call, whatever it is lent, keeps what book and state have in common.
-use mathlib.Core.Path.{_≡_, refl, sym, ap, _∙_}
-use mathlib.Core.Logic.{⊎-elim}
-use mathlib.Core.Bool.{true, false, false≢true}
+use mathlib.Core.Path.{_≡_, sym, ap, _∙_}
+use mathlib.Core.Bool.{true, false}
 use mathlib.Core.List.{List}
 use mathlib.Core.Option.{Option, none, some}
 use borrow.Author.Tests.{not-true}
@@ -14,29 +13,23 @@ use Rattle.stand.specs.Shape.{Ranged, Shape, sections}
 use Rattle.stand.specs.Storage.{Storage, freshState, freshStorage, joined, lengthsOf, storage, storageFits, volumeOf}
 use Rattle.stand.specs.declared.Cell.{Cell}
 use Rattle.stand.specs.declared.volume.Extent.{Extent}
-use Rattle.ledger.specs.Book.{Book, fitsBook, openBook, writeFill, writeOpen, writeSet}
+use Rattle.ledger.specs.Book.{Book, Edit, fitsBook, openBook, writeFill, writeOpen, writeSet}
 use Rattle.ledger.specs.Calls as C
-use Rattle.ledger.specs.Reading.{isGiven}
-use Rattle.ledger.specs.Calls.{Call, Four, Op, Typed, edited, given, headerAfter, leftBy, opensSheet, opensStorage, orElse, ownAfter, result, sheeted, step, unfit, write}
-use Rattle.ledger.specs.Claim.{LentAnew}
+use Rattle.ledger.specs.Calls.{Call, Effect, Four, Op, call, edited, effectOf, given, headerAfter, isGiven, leftBy, orElse, ownAfter, result, sheeted, step, unfit, write}
+use Rattle.ledger.specs.Claim.{Lent, Uses}
 use Rattle.ledger.proofs.Lent.{fill-lent, set-lent, write-fill-lent, write-set-lent}
 use Rattle.ledger.proofs.Tells.{Tells, by-opening, open-passed, tells-fill, tells-fresh, tells-set}
 
-abbrev pub call : Option Storage → Option (List ℕ) → Op → Call
-call st l o = record { storage = st; sheet = l; op = o }
+-- ---- a call with any effect in the place of its own: what it may be lent, whether it is accepted, the four after it
 
--- ---- other lists: 4 turns the call back, unless it opens them
+abbrev pub LentBy : Four → Call → Effect → Type 0
+LentBy s c e = Uses e (c .storage) (c .sheet) (unfit (given s c) e ≡ true)
 
-pub storage-unfit : (s : Four) (st : Storage) (l : Option (List ℕ)) (o : Op) → opensStorage o true ≡ false → LentAnew s (call (some st) l o)
-    → unfit (given s (call (some st) l o)) o ≡ true
-unfolding LentAnew
-storage-unfit s st none o n w = ⊎-elim (λ e. e) (λ e. absurd (false≢true (sym n ∙ e))) (w .1)
-storage-unfit s st (some l) o n w = ⊎-elim (λ e. e) (λ e. absurd (false≢true e)) (w .1)
+abbrev pub AcceptedBy : Four → Call → Effect → Type 0
+AcceptedBy s c e = result (given s c) e .accepted ≡ true
 
-pub sheet-unfit : (s : Four) (l : List ℕ) (o : Op) → opensSheet o true ≡ false → LentAnew s (call none (some l) o)
-    → unfit (given s (call none (some l) o)) o ≡ true
-unfolding LentAnew
-sheet-unfit s l o n w = ⊎-elim (λ e. e) (λ e. absurd (false≢true (sym n ∙ e))) (w .1)
+abbrev pub stepBy : Four → Call → Effect → Four
+stepBy s c e = leftBy s c (result (given s c) e)
 
 -- ---- opening a stand
 
@@ -77,27 +70,24 @@ module _ (s : Four) (b : Book) (k : Tells (s .state) b) where
 
   -- ---- any call
 
-  abbrev After : Option Storage → Option (List ℕ) → Op → Type 0
-  After st l o = Tells (step s (call st l o) .state) (write b (lengthsOf (storage (given s (call st l o) .state))) o)
+  abbrev After : Option Storage → Option (List ℕ) → Op → Effect → Type 0
+  After st l o e = Tells (stepBy s (call st l o) e .state) (write b (lengthsOf (storage (given s (call st l o) .state))) e)
 
-  tells-call : (st : Option Storage) (l : Option (List ℕ)) (o : Op) → LentAnew s (call st l o) → After st l o
-  unfolding step leftBy given result C.opened edited sheeted write unfit LentAnew Typed
-  tells-call st l (Op.openStand o size) w = opening-left st o size (w .0)
-  tells-call none l (Op.set c v) w = tells-set (s .state) b c v k
-  tells-call (some st) l (Op.set c v) w = set-other st (not-true _ (storage-unfit s st l (Op.set c v) refl w)) c v
-  tells-call none l (Op.setLent c v) w = tells-set (s .state) b c v k
-  tells-call (some st) l (Op.setLent c v) w = set-other st (not-true _ (storage-unfit s st l (Op.setLent c v) refl w)) c v
-  tells-call none l (Op.fill c d v) w = tells-fill (s .state) b c d v k
-  tells-call (some st) l (Op.fill c d v) w = fill-other st (not-true _ (storage-unfit s st l (Op.fill c d v) refl w)) c d v
-  tells-call none l (Op.openSheet t m) w = k
-  tells-call (some st) l (Op.openSheet t m) w = k
-  tells-call none l (Op.refresh t m) w = k
-  tells-call (some st) l (Op.refresh t m) w = k
-  tells-call none l Op.totals w = k
-  tells-call (some st) l Op.totals w = k
-  tells-call none l (Op.reads r) w = k
-  tells-call (some st) l (Op.reads r) w = k
+  tells-call : (st : Option Storage) (l : Option (List ℕ)) (o : Op) (e : Effect) → LentBy s (call st l o) e → After st l o e
+  unfolding leftBy given result C.opened edited sheeted write unfit
+  tells-call st l o (Effect.opensStand p size) w = opening-left st (p .cell) size (p .ranged)
+  tells-call none l o (Effect.edits (Edit.one c v)) w = tells-set (s .state) b c v k
+  tells-call none l o (Effect.edits (Edit.box c d v)) w = tells-fill (s .state) b c d v k
+  tells-call (some st) l o (Effect.edits (Edit.one c v)) w = set-other st (not-true _ w) c v
+  tells-call (some st) l o (Effect.edits (Edit.box c d v)) w = fill-other st (not-true _ w) c d v
+  tells-call none l o (Effect.opensSheet t m) w = k
+  tells-call (some st) l o (Effect.opensSheet t m) w = k
+  tells-call none l o (Effect.refreshes t m) w = k
+  tells-call (some st) l o (Effect.refreshes t m) w = k
+  tells-call none l o Effect.leaves w = k
+  tells-call (some st) l o Effect.leaves w = k
 
-pub tells-step : (s : Four) (b : Book) (c : Call) → LentAnew s c → Tells (s .state) b
-    → Tells (step s c .state) (write b (lengthsOf (storage (given s c .state))) (c .op))
-tells-step s b c w k = tells-call s b k (c .storage) (c .sheet) (c .op) w
+pub tells-step : (s : Four) (b : Book) (c : Call) → Lent s c → Tells (s .state) b
+    → Tells (step s c .state) (write b (lengthsOf (storage (given s c .state))) (effectOf (c .op)))
+unfolding step Lent
+tells-step s b c w k = tells-call s b k (c .storage) (c .sheet) (c .op) (effectOf (c .op)) w

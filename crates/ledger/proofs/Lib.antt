@@ -1,15 +1,19 @@
 -- The claim proved.
 pub mod Accepted
 pub mod Books
+pub mod Breadth
 pub mod Claimed
 pub mod Enough
-pub mod Example
+pub mod Finishes
+pub mod Following
+pub mod Going
 pub mod Kept
 pub mod Lent
 pub mod Measured
 pub mod Nearby
 pub mod Notes
 pub mod Opened
+pub mod Premises
 pub mod Quoted
 pub mod Right
 pub mod Rows
@@ -17,6 +21,7 @@ pub mod Same
 pub mod Sheeted
 pub mod Shows
 pub mod Since
+pub mod Starting
 pub mod Steps
 pub mod Tells
 pub mod Trestles

@@ -72,9 +72,9 @@ module _ (t : Terms) (s : Four) (b : Book) (k : Tells (s .state) b) (h : Shows t
   count-is : sections (shapeOf (s .state .volume)) ≡ sections (b .shape)
   count-is = ap sections (k .shape-is)
 
-  not-turned : totalsRefusal (s .state .volume) (s .sheet) ≡ 0
+  not-refused : totalsRefusal (s .state .volume) (s .sheet) ≡ 0
   unfolding totalsRefusal first
-  not-turned =
+  not-refused =
       let a : eqb (length (s .sheet)) (sections (shapeOf (s .state .volume)) * 3) ≡ true = eq-eqb _ _ (h .length-is ∙ ap (λ (n : ℕ). n * 3) (sym count-is)) in
       let c : all (λ i. sane (rowAt (s .sheet) i)) (sections (shapeOf (s .state .volume))) ≡ true =
       all-is (λ i. sane (rowAt (s .sheet) i)) (sections (shapeOf (s .state .volume))) (λ i l. row i (rw (sym count-is) l) .sane-is) in
@@ -83,7 +83,7 @@ module _ (t : Terms) (s : Four) (b : Book) (k : Tells (s .state) b) (h : Shows t
   totals-are : totalsCall (s .state .volume) (s .sheet) ≡ gives (bookSums t b)
   unfolding totalsCall answer
   totals-are =
-      ap (λ (n : ℕ). answer n (sums (rowAt (s .sheet)) (sections (shapeOf (s .state .volume))))) not-turned
+      ap (λ (n : ℕ). answer n (sums (rowAt (s .sheet)) (sections (shapeOf (s .state .volume))))) not-refused
       ∙ ap (λ (r : Row). gives r) (ap (sums (rowAt (s .sheet))) count-is ∙ sums-are)
 
   pub right : Right t s b

@@ -1,5 +1,5 @@
 -- Opening and refresh of the sheet, accepted: which lists they were lent, and what they measured.
-use mathlib.Core.Path.{_≡_, refl, sym, ap, _∙_}
+use mathlib.Core.Path.{_≡_, refl, sym, ap, _∙_, subst}
 use mathlib.Core.Bool.{Bool, true, false, not, _&&_, false≢true}
 use mathlib.Core.List.{List}
 use mathlib.Core.Option.{Option, none, some}
@@ -15,14 +15,14 @@ use Rattle.sheet.specs.Calls as S
 use Rattle.sheet.specs.Calls.{every, openFits, refreshFits}
 use Rattle.sheet.specs.Card.{Terms}
 use Rattle.sheet.specs.Due.{todo}
-use Rattle.ledger.specs.Calls.{Four, Op, accepted, given, isDone, leftBy, orElse, ownAfter, result, sheeted, step, unfit}
-use Rattle.ledger.specs.Claim.{LentAnew}
+use Rattle.ledger.specs.Calls.{Call, Effect, Four, Op, accepted, call, effectOf, given, isDone, leftBy, orElse, ownAfter, result, sheeted, step, unfit}
+use Rattle.ledger.specs.Claim.{Lent}
 use Rattle.ledger.proofs.Accepted.{call-measures, call-passed}
-use Rattle.ledger.proofs.Kept.{call, sheet-unfit, storage-unfit}
+use Rattle.ledger.proofs.Kept.{AcceptedBy, LentBy, stepBy}
 use Rattle.ledger.proofs.Measured.{Measures, Passed}
 
 -- what 4 asks cannot both fail and pass
-both-ways : (b : Bool) → not b ≡ true → b ≡ true → ⊥
+pub both-ways : (b : Bool) → not b ≡ true → b ≡ true → ⊥
 both-ways b e h = false≢true (sym (not-true b e) ∙ h)
 
 -- ---- opening, accepted: on the four's own sheet, or on another one
@@ -38,7 +38,7 @@ module _ (s : Four) (t : Terms) (m : List ℕ) where
   abbrev doneOpen : State → List ℕ → Type 0
   doneOpen a l = isDone (S.openCall t (a .volume) (a .cells) (s .marks) m l .verdict) ≡ true
 
-  open-fits : (a : State) (l : List ℕ) → doneOpen a l → fitsOpen a l ≡ true
+  pub open-fits : (a : State) (l : List ℕ) → doneOpen a l → fitsOpen a l ≡ true
   unfolding S.openCall
   open-fits a l e = call-passed t a every (fitsOpen a l) false (s .marks) m l e .fits-is
 
@@ -50,17 +50,21 @@ module _ (s : Four) (t : Terms) (m : List ℕ) where
   open-left l e after es em =
       call-measures t (s .state) every (fitsOpen (s .state) l) false (s .marks) m l e (open-length (s .state) l (open-fits (s .state) l e)) after es em
 
-  pub open-measures : (st : Option Storage) (l : Option (List ℕ)) → LentAnew s (call st l (Op.openSheet t m)) → accepted s (call st l (Op.openSheet t m)) ≡ true
-      → Measures t (s .state) every (orElse l (s .sheet)) (step s (call st l (Op.openSheet t m)))
-  unfolding step leftBy given result sheeted accepted unfit
-  open-measures none none w e = open-left (s .sheet) e (step s (call none none (Op.openSheet t m))) refl refl
-  open-measures none (some l) w e =
-      open-left l e (step s (call none (some l) (Op.openSheet t m)))
+  abbrev Opens : Call → Effect → Type 0
+  Opens c e = LentBy s c e → AcceptedBy s c e → Measures t (s .state) every (orElse (c .sheet) (s .sheet)) (stepBy s c e)
+
+  opens-so : (st : Option Storage) (l : Option (List ℕ)) (o : Op) → Opens (call st l o) (Effect.opensSheet t m)
+  unfolding leftBy given result sheeted unfit
+  opens-so none none o w e = open-left (s .sheet) e (stepBy s (call none none o) (Effect.opensSheet t m)) refl refl
+  opens-so none (some l) o w e =
+      open-left l e (stepBy s (call none (some l) o) (Effect.opensSheet t m))
       (ap (λ (a : Bool). ownAfter (some l) a (s .sheet) (S.openCall t (s .state .volume) (s .state .cells) (s .marks) m l .sheet)) e) refl
-  open-measures (some st) l w e =
-      absurd
-      (both-ways _ (storage-unfit s st l (Op.openSheet t m) refl w)
-      (open-fits (joined (s .state .volume) st) (orElse l (s .sheet)) e))
+  opens-so (some st) l o w e = absurd (both-ways _ w (open-fits (joined (s .state .volume) st) (orElse l (s .sheet)) e))
+
+  pub open-measures : (c : Call) → effectOf (c .op) ≡ Effect.opensSheet t m → Lent s c → accepted s c ≡ true
+      → Measures t (s .state) every (orElse (c .sheet) (s .sheet)) (step s c)
+  unfolding step accepted Lent
+  open-measures c p = subst (Opens c) (sym p) (opens-so (c .storage) (c .sheet) (c .op))
 
 -- ---- refresh, accepted: on the four's own lists
 
@@ -83,7 +87,7 @@ module _ (s : Four) (t : Terms) (m : List ℕ) where
   abbrev doneRefresh : State → List ℕ → Type 0
   doneRefresh a l = isDone (S.refreshCall t (a .volume) (a .cells) (a .log) (a .last) (s .marks) m l .verdict) ≡ true
 
-  refresh-passed : (a : State) (l : List ℕ) → doneRefresh a l
+  pub refresh-passed : (a : State) (l : List ℕ) → doneRefresh a l
       → Passed t (a .volume) (look (shape a) (a .cells)) (due a) (fitsRefresh a l) (ltb (a .volume .generation) (s .marks .sheet))
   unfolding S.refreshCall
   refresh-passed a l e = call-passed t a (due a) (fitsRefresh a l) (ltb (a .volume .generation) (s .marks .sheet)) (s .marks) m l e
@@ -97,11 +101,17 @@ module _ (s : Four) (t : Terms) (m : List ℕ) where
       call-measures t (s .state) (due (s .state)) (fitsRefresh (s .state) (s .sheet)) (ltb (s .state .volume .generation) (s .marks .sheet)) (s .marks) m (s .sheet) e
       (refresh-length (s .state) (s .sheet) (refresh-passed (s .state) (s .sheet) e .fits-is)) after es em
 
-  pub refresh-measures : (st : Option Storage) (l : Option (List ℕ)) → LentAnew s (call st l (Op.refresh t m)) → accepted s (call st l (Op.refresh t m)) ≡ true
-      → Measures t (s .state) (due (s .state)) (s .sheet) (step s (call st l (Op.refresh t m))) × (s .marks .sheet ≤ s .state .volume .generation)
-  unfolding step leftBy given result sheeted accepted unfit
-  refresh-measures none none w e =
-      (refresh-left e (step s (call none none (Op.refresh t m))) refl refl, ltb-false _ _ (refresh-passed (s .state) (s .sheet) e .behind))
-  refresh-measures none (some l) w e = absurd (both-ways _ (sheet-unfit s l (Op.refresh t m) refl w) (refresh-passed (s .state) l e .fits-is))
-  refresh-measures (some st) l w e =
-      absurd (both-ways _ (storage-unfit s st l (Op.refresh t m) refl w) (refresh-passed (joined (s .state .volume) st) (orElse l (s .sheet)) e .fits-is))
+  abbrev Refreshes : Call → Effect → Type 0
+  Refreshes c e = LentBy s c e → AcceptedBy s c e → Measures t (s .state) (due (s .state)) (s .sheet) (stepBy s c e) × (s .marks .sheet ≤ s .state .volume .generation)
+
+  refreshes-so : (st : Option Storage) (l : Option (List ℕ)) (o : Op) → Refreshes (call st l o) (Effect.refreshes t m)
+  unfolding leftBy given result sheeted unfit
+  refreshes-so none none o w e =
+      (refresh-left e (stepBy s (call none none o) (Effect.refreshes t m)) refl refl, ltb-false _ _ (refresh-passed (s .state) (s .sheet) e .behind))
+  refreshes-so none (some l) o w e = absurd (both-ways _ (w .1) (refresh-passed (s .state) l e .fits-is))
+  refreshes-so (some st) l o w e = absurd (both-ways _ (w .0) (refresh-passed (joined (s .state .volume) st) (orElse l (s .sheet)) e .fits-is))
+
+  pub refresh-measures : (c : Call) → effectOf (c .op) ≡ Effect.refreshes t m → Lent s c → accepted s c ≡ true
+      → Measures t (s .state) (due (s .state)) (s .sheet) (step s c) × (s .marks .sheet ≤ s .state .volume .generation)
+  unfolding step accepted Lent
+  refresh-measures c p = subst (Refreshes c) (sym p) (refreshes-so (c .storage) (c .sheet) (c .op))

@@ -108,7 +108,7 @@ module _ (s : State) (b : Book) (t : Tells s b) (c : Cell) (v : ℕ) (at : insid
       (λ e. rw (book-same b c v (sym (t .cells-are c at) ∙ e)) t)
       (λ h. rw (book-other b c v (λ e. h (t .cells-are c at ∙ e))) tells-change)
 
--- ---- a call that edits, beside the book, which is turned back alike
+-- ---- a call that edits, beside the book, which is refused alike
 
 by-both : (P : Outcome ℕ → Book → Type 0) (n : ℕ) (s : State) (e : Edited) (b d : Book)
     → ((k : ℕ) → P (outcomeOf (refused (suc k)) s) b)
@@ -200,7 +200,7 @@ pub rules-pass : (a b : Bool) → a ≡ false → b ≡ false → first ((a ⇒ 
 unfolding first
 rules-pass a b p q = rw (p, q)
 
--- one that nothing turns back
+-- one that nothing refuses
 pub open-passed : (o : Cell) (size : Extent) (l : Lengths) → openRefusal (openedShape o size) l ≡ 0 → (opens (openedShape o size) ≡ true) × (storageFits (sections (openedShape o size)) l ≡ true)
 unfolding openRefusal
 open-passed o size l e =
@@ -209,7 +209,7 @@ open-passed o size l e =
     let r = passes _ _ _ (q .1) in
     (opened-opens o size (rules-pass _ _ (p .0) (q .0)), not-false _ (r .0))
 
--- turned back, storage and book stay; else both are made anew
+-- refused, storage and book stay; else both are made anew
 pub by-opening : (P : Opening → Book → Type 0) (st : Storage) (b : Book) (o : Cell) (size : Extent)
     → ((k : ℕ) → P (openingOf (refused (suc k)) st) b)
     → (openRefusal (openedShape o size) (lengthsOf st) ≡ 0 → P (openingOf (gives (volumeOf (openedShape o size) 0 0)) (freshStorage (sections (openedShape o size)))) (openBook (openedShape o size)))

@@ -27,7 +27,7 @@ use Rattle.ledger.specs.Trestles.{Trestles, cell, changedFrom, extent, f
 
 -- ---- openings
 
--- what turns an opening from (x, 0, 0) on back, on storage of these lengths
+-- what refuses an opening from (x, 0, 0) on, on storage of these lengths
 abbrev refusalAt : ℕ → Extent → T.Lengths → ℕ
 refusalAt x size l = O.openRefusal (O.openedShape (cell x 0 0) size) l
 

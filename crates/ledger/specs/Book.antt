@@ -49,7 +49,7 @@ unfoldable pub setAll : Book → List Cell → ℕ → Book
 setAll b [] v = b
 setAll b (c ∷ cs) v = setAll (setBook b c v) cs v
 
--- ---- what a call that changes the book writes, from its arguments and the lengths of the storage lent; one turned back, the count read as generation, nothing
+-- ---- what a call that changes the book writes, from its arguments and the lengths of the storage lent; one refused, the count read as generation, nothing
 
 -- under a refusal's number, 0 for none
 unfoldable pub unless : ℕ → Book → Book → Book
@@ -68,6 +68,15 @@ writeSet b l c v = unless (setRefusal (opens (b .shape)) (fitsBook b l) (b .shap
 unfoldable pub writeFill : Book → Lengths → Cell → Cell → ℕ → Book
 writeFill b l c d v =
     unless (fillRefusal (opens (b .shape)) (fitsBook b l) (b .shape) (b .count) c d) b (setAll b (boxCells (b .shape) (boxOf (b .shape) c d)) v)
+
+-- the edits: a cell takes a finish, or every cell of a box between two corners does
+pub data Edit : Type 0 where
+  one : Cell → ℕ → Edit
+  box : Cell → Cell → ℕ → Edit
+
+abbrev pub writeEdit : Book → Lengths → Edit → Book
+writeEdit b l (Edit.one c v) = writeSet b l c v
+writeEdit b l (Edit.box c d v) = writeFill b l c d v
 
 -- section i has changed since a mark: it is noted under a number above the mark
 pub record Changed (b : Book) (mark i : ℕ) : Type 0 where

@@ -1,10 +1,8 @@
 -- Lists of calls: document 01, 'The book behind the sums', and demand 3.
-use Prim.Native.Nat.{ℕ, _*_}
-use mathlib.Core.Path.{_≡_}
-use mathlib.Core.Bool.{Bool, true, false, not}
+use Prim.Native.Nat.{ℕ}
+use mathlib.Core.Bool.{Bool, true, false, not, _&&_}
 use mathlib.Core.List.{List, [], _∷_}
 use mathlib.Core.Option.{Option, none, some}
-use lib.Dec.{eqb}
 use lib.ListN.{length}
 use Rattle.stand.specs.Edit.{fitting, setCall}
 use Rattle.stand.specs.Fill.{fillCall}
@@ -18,11 +16,11 @@ use Rattle.stand.specs.declared.Cell.{Cell}
 use Rattle.stand.specs.declared.volume.Extent.{Extent}
 use Rattle.stand.specs.declared.volume.Volume.{Volume}
 use Rattle.sheet.specs.Calls as S
-use Rattle.sheet.specs.Calls.{Verdict, done, openFits, refreshFits, totalsCall}
+use Rattle.sheet.specs.Calls.{Verdict, done, openFits, refreshFits}
 use Rattle.sheet.specs.Card.{Terms}
 use Rattle.sheet.specs.declared.Marks.{Marks}
-use Rattle.ledger.specs.Book.{Book, writeFill, writeOpen, writeSet}
-use Rattle.ledger.specs.Reading.{Reading, answered, isGiven, told}
+use Rattle.ledger.specs.Book.{Book, Edit, writeEdit, writeOpen}
+use Rattle.ledger.specs.Reading.{Reading}
 
 -- header and storage, marks and sheet
 pub record Four : Type 0 where
@@ -30,9 +28,14 @@ pub record Four : Type 0 where
   pub marks : Marks
   pub sheet : List ℕ
 
+-- where a stand is opened: coordinates are i32, as the call's type has it
+pub record Origin : Type 0 where
+  pub cell : Cell
+  pub ranged : Ranged cell
+
 -- the calls and their arguments; the lists of a measuring call are its rates and its mask, with any contents
 pub data Op : Type 0 where
-  openStand : Cell → Extent → Op
+  openStand : Origin → Extent → Op
   set : Cell → ℕ → Op
   setLent : Cell → ℕ → Op
   fill : Cell → Cell → ℕ → Op
@@ -41,12 +44,38 @@ pub data Op : Type 0 where
   totals : Op
   reads : Reading → Op
 
+-- what an accepted call does to the four
+pub data Effect : Type 0 where
+  opensStand : Origin → Extent → Effect
+  edits : Edit → Effect
+  opensSheet : Terms → List ℕ → Effect
+  refreshes : Terms → List ℕ → Effect
+  leaves : Effect
+
+-- the one table of calls: a new call is a line of Op and a line here
+abbrev pub effectOf : Op → Effect
+effectOf (Op.openStand o size) = Effect.opensStand o size
+effectOf (Op.set c v) = Effect.edits (Edit.one c v)
+effectOf (Op.setLent c v) = Effect.edits (Edit.one c v)
+effectOf (Op.fill c d v) = Effect.edits (Edit.box c d v)
+effectOf (Op.openSheet t m) = Effect.opensSheet t m
+effectOf (Op.refresh t m) = Effect.refreshes t m
+effectOf Op.totals = Effect.leaves
+effectOf (Op.reads r) = Effect.leaves
+
 -- ---- one call on the four, by the definition that its contract cites
 
--- whether it was accepted, and the four after it
 pub record Result : Type 0 where
   pub accepted : Bool
+  -- the four after it
   pub four : Four
+  -- whether it opened the storage, or the sheet, that it was lent
+  pub newStorage : Bool
+  pub newSheet : Bool
+
+abbrev pub isGiven : {A : Type 0} → Answer A → Bool
+isGiven (gives a) = true
+isGiven (refused n) = false
 
 abbrev pub isDone : Verdict → Bool
 isDone done = true
@@ -62,23 +91,49 @@ opened s r =
     record {
       accepted = isGiven (r .answer);
       four = record { state = joined (headerAfter (r .answer) (s .state .volume)) (r .storage); marks = s .marks; sheet = s .sheet };
+      newStorage = isGiven (r .answer);
+      newSheet = false;
     }
 
 unfoldable pub edited : Four → St.Outcome ℕ → Result
-edited s r = record { accepted = isGiven (r .answer); four = record { state = r .state; marks = s .marks; sheet = s .sheet } }
+edited s r =
+    record {
+      accepted = isGiven (r .answer);
+      four = record { state = r .state; marks = s .marks; sheet = s .sheet };
+      newStorage = false;
+      newSheet = false;
+    }
 
-unfoldable pub sheeted : Four → S.Outcome → Result
-sheeted s r = record { accepted = isDone (r .verdict); four = record { state = s .state; marks = r .marks; sheet = r .sheet } }
+unfoldable pub sheeted : Four → Bool → S.Outcome → Result
+sheeted s opens r =
+    record {
+      accepted = isDone (r .verdict);
+      four = record { state = s .state; marks = r .marks; sheet = r .sheet };
+      newStorage = false;
+      newSheet = opens && isDone (r .verdict);
+    }
 
-unfoldable pub result : Four → Op → Result
-result s (Op.openStand o size) = opened s (O.openCall (storage (s .state)) o size)
-result s (Op.set c v) = edited s (setCall (s .state) c v)
-result s (Op.setLent c v) = edited s (setCall (s .state) c v)
-result s (Op.fill a b v) = edited s (fillCall (s .state) a b v)
-result s (Op.openSheet t m) = sheeted s (S.openCall t (s .state .volume) (s .state .cells) (s .marks) m (s .sheet))
-result s (Op.refresh t m) = sheeted s (S.refreshCall t (s .state .volume) (s .state .cells) (s .state .log) (s .state .last) (s .marks) m (s .sheet))
-result s Op.totals = record { accepted = isGiven (totalsCall (s .state .volume) (s .sheet)); four = s }
-result s (Op.reads r) = record { accepted = answered (told (s .state) r); four = s }
+abbrev pub editCall : State → Edit → St.Outcome ℕ
+editCall s (Edit.one c v) = setCall s c v
+editCall s (Edit.box c d v) = fillCall s c d v
+
+-- a call that writes none of the four counts as accepted here: what it answers is its contract's
+unfoldable pub result : Four → Effect → Result
+result s (Effect.opensStand o size) = opened s (O.openCall (storage (s .state)) (o .cell) size)
+result s (Effect.edits e) = edited s (editCall (s .state) e)
+result s (Effect.opensSheet t m) = sheeted s true (S.openCall t (s .state .volume) (s .state .cells) (s .marks) m (s .sheet))
+result s (Effect.refreshes t m) =
+    sheeted s false (S.refreshCall t (s .state .volume) (s .state .cells) (s .state .log) (s .state .last) (s .marks) m (s .sheet))
+result s Effect.leaves = record { accepted = true; four = s; newStorage = false; newSheet = false }
+
+-- the lists that a call is given are of a length that 4 refuses; one that writes none of the four may be given any
+unfoldable pub unfit : Four → Effect → Bool
+unfit s (Effect.opensStand o size) = not (storageFits (sections (openedShape (o .cell) size)) (lengthsOf (storage (s .state))))
+unfit s (Effect.edits e) = not (fitting (s .state))
+unfit s (Effect.opensSheet t m) = not (openFits (sections (shapeOf (s .state .volume))) (length (s .state .cells)) (length (s .sheet)))
+unfit s (Effect.refreshes t m) =
+    not (refreshFits (sections (shapeOf (s .state .volume))) (length (s .state .cells)) (length (s .state .log)) (length (s .state .last)) (length (s .sheet)))
+unfit s Effect.leaves = true
 
 -- ---- calls that are lent other lists
 
@@ -88,9 +143,12 @@ pub record Call : Type 0 where
   pub sheet : Option (List ℕ)
   pub op : Op
 
+abbrev pub call : Option Storage → Option (List ℕ) → Op → Call
+call st l o = record { storage = st; sheet = l; op = o }
+
 -- a call that is lent the four's own lists
 abbrev pub own : Op → Call
-own o = record { storage = none; sheet = none; op = o }
+own o = call none none o
 
 abbrev pub orElse : {A : Type 0} → Option A → A → A
 orElse none a = a
@@ -100,81 +158,38 @@ orElse (some b) a = b
 unfoldable pub given : Four → Call → Four
 given s c = record { state = joined (s .state .volume) (orElse (c .storage) (storage (s .state))); marks = s .marks; sheet = orElse (c .sheet) (s .sheet) }
 
--- the lists that a call is given are of a length that 4 refuses; a call that only reads or meshes may be given any
-unfoldable pub unfit : Four → Op → Bool
-unfit s (Op.openStand o size) = not (storageFits (sections (openedShape o size)) (lengthsOf (storage (s .state))))
-unfit s (Op.set c v) = not (fitting (s .state))
-unfit s (Op.setLent c v) = not (fitting (s .state))
-unfit s (Op.fill a b v) = not (fitting (s .state))
-unfit s (Op.openSheet t m) = not (openFits (sections (shapeOf (s .state .volume))) (length (s .state .cells)) (length (s .sheet)))
-unfit s (Op.refresh t m) =
-    not (refreshFits (sections (shapeOf (s .state .volume))) (length (s .state .cells)) (length (s .state .log)) (length (s .state .last)) (length (s .sheet)))
-unfit s Op.totals = not (eqb (length (s .sheet)) (sections (shapeOf (s .state .volume)) * 3))
-unfit s (Op.reads r) = true
-
 -- the list that is the four's after a call: their own, as it left it; another one only where it was opened
 abbrev pub ownAfter : {A : Type 0} → Option A → Bool → A → A → A
 ownAfter none opens own left = left
 ownAfter (some b) true own left = left
 ownAfter (some b) false own left = own
 
--- whether a call, if accepted, opens the storage, or the sheet, that it is lent
-abbrev pub opensStorage : Op → Bool → Bool
-opensStorage (Op.openStand o size) a = a
-opensStorage (Op.set c v) a = false
-opensStorage (Op.setLent c v) a = false
-opensStorage (Op.fill c d v) a = false
-opensStorage (Op.openSheet t m) a = false
-opensStorage (Op.refresh t m) a = false
-opensStorage Op.totals a = false
-opensStorage (Op.reads r) a = false
-
-abbrev pub opensSheet : Op → Bool → Bool
-opensSheet (Op.openStand o size) a = false
-opensSheet (Op.set c v) a = false
-opensSheet (Op.setLent c v) a = false
-opensSheet (Op.fill c d v) a = false
-opensSheet (Op.openSheet t m) a = a
-opensSheet (Op.refresh t m) a = false
-opensSheet Op.totals a = false
-opensSheet (Op.reads r) a = false
-
--- whether a call that is lent other storage, or another sheet, would open that and nothing else
-abbrev pub opensOther : Option Storage → Option (List ℕ) → Op → Bool
-opensOther none none o = false
-opensOther none (some l) o = opensSheet o true
-opensOther (some st) none o = opensStorage o true
-opensOther (some st) (some l) o = false
-
 unfoldable pub leftBy : Four → Call → Result → Four
 leftBy s c r =
     record {
-      state = joined (r .four .state .volume) (ownAfter (c .storage) (opensStorage (c .op) (r .accepted)) (storage (s .state)) (storage (r .four .state)));
+      state = joined (r .four .state .volume) (ownAfter (c .storage) (r .newStorage) (storage (s .state)) (storage (r .four .state)));
       marks = r .four .marks;
-      sheet = ownAfter (c .sheet) (opensSheet (c .op) (r .accepted)) (s .sheet) (r .four .sheet);
+      sheet = ownAfter (c .sheet) (r .newSheet) (s .sheet) (r .four .sheet);
     }
 
 unfoldable pub step : Four → Call → Four
-step s c = leftBy s c (result (given s c) (c .op))
+step s c = leftBy s c (result (given s c) (effectOf (c .op)))
 
 unfoldable pub run : Four → List Call → Four
 run s [] = s
 run s (c ∷ cs) = run (step s c) cs
 
 unfoldable pub accepted : Four → Call → Bool
-accepted s c = result (given s c) (c .op) .accepted
+accepted s c = result (given s c) (effectOf (c .op)) .accepted
 
 -- ---- the book of a list of calls: fed arguments, and of what was lent only the lengths
 
-unfoldable pub write : Book → Lengths → Op → Book
-write b l (Op.openStand o size) = writeOpen b l o size
-write b l (Op.set c v) = writeSet b l c v
-write b l (Op.setLent c v) = writeSet b l c v
-write b l (Op.fill c d v) = writeFill b l c d v
-write b l (Op.openSheet t m) = b
-write b l (Op.refresh t m) = b
-write b l Op.totals = b
-write b l (Op.reads r) = b
+unfoldable pub write : Book → Lengths → Effect → Book
+write b l (Effect.opensStand o size) = writeOpen b l (o .cell) size
+write b l (Effect.edits e) = writeEdit b l e
+write b l (Effect.opensSheet t m) = b
+write b l (Effect.refreshes t m) = b
+write b l Effect.leaves = b
 
 -- what the book is fed
 pub record Fed : Type 0 where
@@ -187,28 +202,4 @@ feed s (c ∷ cs) = record { lengths = lengthsOf (storage (given s c .state)); o
 
 unfoldable pub book : Book → List Fed → Book
 book b [] = b
-book b (e ∷ es) = book (write b (e .lengths) (e .op)) es
-
--- ---- of the arguments alone, for the claim
-
--- coordinates of an opening are i32, as the call's type has it
-unfoldable pub Typed : Op → Type 0
-Typed (Op.openStand o size) = Ranged o
-Typed (Op.set c v) = Unit {0}
-Typed (Op.setLent c v) = Unit {0}
-Typed (Op.fill c d v) = Unit {0}
-Typed (Op.openSheet t m) = Unit {0}
-Typed (Op.refresh t m) = Unit {0}
-Typed Op.totals = Unit {0}
-Typed (Op.reads r) = Unit {0}
-
--- no opening of stand or sheet, and a refresh only with these terms: that opening's card and outside rule
-unfoldable pub KeepsOp : Terms → Op → Type 0
-KeepsOp t (Op.openStand o size) = ⊥
-KeepsOp t (Op.set c v) = Unit {0}
-KeepsOp t (Op.setLent c v) = Unit {0}
-KeepsOp t (Op.fill c d v) = Unit {0}
-KeepsOp t (Op.openSheet u m) = ⊥
-KeepsOp t (Op.refresh u m) = u ≡ t
-KeepsOp t Op.totals = Unit {0}
-KeepsOp t (Op.reads r) = Unit {0}
+book b (e ∷ es) = book (write b (e .lengths) (effectOf (e .op))) es

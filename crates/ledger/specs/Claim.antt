@@ -3,14 +3,15 @@ use Prim.Native.Nat.{ℕ, _-_, _≤_, _<_}
 use mathlib.Core.Path.{_≡_}
 use mathlib.Core.Bool.{true}
 use mathlib.Core.List.{List, [], _∷_, _++_}
-use mathlib.Core.Logic.{_⊎_}
 use mathlib.Core.Option.{Option, none, some}
+use Rattle.stand.specs.Opening.{openedShape}
 use Rattle.stand.specs.Refusal.{gives}
-use Rattle.stand.specs.Shape.{Ranged, Shape, counted, inside, opens, sections}
+use Rattle.stand.specs.Shape.{counted, inside, sections}
 use Rattle.stand.specs.Sides.{sideNumber}
-use Rattle.stand.specs.Storage.{Storage, freshState}
+use Rattle.stand.specs.Storage.{Storage}
 use Rattle.stand.specs.declared.Cell.{Cell}
 use Rattle.stand.specs.declared.Face.{Face}
+use Rattle.stand.specs.declared.volume.Extent.{Extent}
 use Rattle.mesh.specs.Cover.{Each, coverCount, covers, facesIn, seen, sumTo}
 use Rattle.mesh.specs.Near.{near}
 use Rattle.mesh.specs.Panels.{faceOf, partPanels}
@@ -22,15 +23,26 @@ use Rattle.sheet.specs.Card.{Terms}
 use Rattle.sheet.specs.Row.{measured}
 use Rattle.sheet.specs.Rows.{rowAt, sums}
 use Rattle.sheet.specs.declared.Row.{Row}
-use Rattle.sheet.specs.declared.Marks.{Marks}
 use Rattle.ledger.specs.Book.{Book, Changed, openBook}
-use Rattle.ledger.specs.Calls.{Call, Four, KeepsOp, Op, Typed, accepted, book, feed, given, opensOther, run, step, unfit}
+use Rattle.ledger.specs.Calls.{Call, Effect, Four, Origin, accepted, book, effectOf, feed, given, run, step, unfit}
 
 -- ---- the list of calls
 
--- a stand just opened, sheet and marks holding anything
-unfoldable pub fresh : Shape → Marks → List ℕ → Four
-fresh g k l = record { state = freshState g; marks = k; sheet = l }
+-- it starts from any four, whatever they hold: the first call opens the stand, on their lists or on others, and is accepted
+pub record Start : Type 0 where
+  pub four : Four
+  pub first : Call
+  pub origin : Origin
+  pub size : Extent
+  pub opens : effectOf (first .op) ≡ Effect.opensStand origin size
+  pub is-accepted : accepted four first ≡ true
+
+-- the four, and the book, after the first call and those of the list
+unfoldable pub fourAfter : Start → List Call → Four
+fourAfter a cs = run (step (a .four) (a .first)) cs
+
+unfoldable pub bookAfter : Start → List Call → Book
+bookAfter a cs = book (openBook (openedShape (a .origin .cell) (a .size))) (feed (step (a .four) (a .first)) cs)
 
 -- P holds of each call of the list and of the four that it meets
 unfoldable pub All : (Four → Call → Type 0) → Four → List Call → Type 0
@@ -39,26 +51,36 @@ All P s (c ∷ cs) = P s c × All P (step s c) cs
 
 -- ---- what a call is lent
 
--- storage and sheet are the four's own, or else A holds
-abbrev pub Own : Option Storage → Option (List ℕ) → Type 0 → Type 0
-Own none none A = Unit {0}
-Own none (some l) A = A
-Own (some st) l A = A
+-- the list is the four's own, or else A holds
+abbrev pub Own : {X : Type 0} → Option X → Type 0 → Type 0
+Own none A = Unit {0}
+Own (some x) A = A
 
--- each call is given the four as the call before left them, or lists of a length that 4 refuses
+-- each list that a call uses without opening it is the four's own, or else A holds
+abbrev pub Uses : Effect → Option Storage → Option (List ℕ) → Type 0 → Type 0
+Uses (Effect.opensStand o size) st l A = Unit {0}
+Uses (Effect.edits e) st l A = Own st A
+Uses (Effect.opensSheet t m) st l A = Own st A
+Uses (Effect.refreshes t m) st l A = Own st A × Own l A
+Uses Effect.leaves st l A = Unit {0}
+
+-- each call is given the four as the call before left them, or lists of a length that 4 refuses; beyond the demand, a stand or a sheet
+-- may be opened on other lists with any contents (a stand enlarged needs longer ones), and a call that writes none of the four may be lent any
 unfoldable pub Lent : Four → Call → Type 0
-Lent s c = Typed (c .op) × Own (c .storage) (c .sheet) (unfit (given s c) (c .op) ≡ true)
-
--- beyond the demand: also a stand opened on other storage, or a sheet opened on another one, with any contents;
--- enlarging a stand is such a list: more sections need longer storage and a longer sheet
-unfoldable pub LentAnew : Four → Call → Type 0
-LentAnew s c = Typed (c .op) × Own (c .storage) (c .sheet) ((unfit (given s c) (c .op) ≡ true) ⊎ (opensOther (c .storage) (c .sheet) (c .op) ≡ true))
+Lent s c = Uses (effectOf (c .op)) (c .storage) (c .sheet) (unfit (given s c) (effectOf (c .op)) ≡ true)
 
 -- ---- since the sheet's last accepted opening
 
--- a call that is accepted opens nothing, and refreshes only with that opening's terms
+-- no opening of stand or sheet, and a refresh only with these terms: that opening's card and outside rule
+abbrev pub KeepsTo : Terms → Effect → Type 0
+KeepsTo t (Effect.opensStand o size) = ⊥
+KeepsTo t (Effect.edits e) = Unit {0}
+KeepsTo t (Effect.opensSheet u m) = ⊥
+KeepsTo t (Effect.refreshes u m) = u ≡ t
+KeepsTo t Effect.leaves = Unit {0}
+
 unfoldable pub Keeps : Terms → Four → Call → Type 0
-Keeps t s c = accepted s c ≡ true → KeepsOp t (c .op)
+Keeps t s c = accepted s c ≡ true → KeepsTo t (effectOf (c .op))
 
 -- ---- measured anew
 
@@ -94,51 +116,36 @@ pub record Right (t : Terms) (s : Four) (b : Book) : Type 0 where
   pub faces-are : bookSums t b .faces ≡ sumTo (λ i. facesIn (t .beyond) (b .shape) (b .look) (sectionPart (b .shape) i)) (sections (b .shape))
   pub faces-once : Once t b
 
--- ---- the claim, for lists of calls that are lent what `Lists` says
+-- ---- the two sentences, each with what it asks of a list
 
-module _ (Lists : Four → Call → Type 0) where
-  -- a list of calls from a fresh stand
-  pub record Listed (g : Shape) (k : Marks) (l : List ℕ) (cs : List Call) : Type 0 where
-    pub opened : opens g ≡ true
-    pub ranged : Ranged (g .origin)
-    pub lent : All Lists (fresh g k l) cs
+-- the sheet's last accepted opening, between xs and ys, came after the stand's, each refresh accepted since had that opening's card
+-- and outside rule, and the last call is a refresh not refused
+pub record Priced (a : Start) (xs : List Call) (opening : Call) (ys : List Call) (last : Call) (t : Terms) : Type 0 where
+  pub lent : All Lent (fourAfter a []) (xs ++ (opening ∷ ys) ++ (last ∷ []))
+  pub mask : List ℕ
+  pub opens : effectOf (opening .op) ≡ Effect.opensSheet t mask
+  pub opened : accepted (fourAfter a xs) opening ≡ true
+  pub keeps : All (Keeps t) (fourAfter a (xs ++ (opening ∷ []))) ys
+  pub lastMask : List ℕ
+  pub refreshes : effectOf (last .op) ≡ Effect.refreshes t lastMask
+  pub refreshed : accepted (fourAfter a (xs ++ (opening ∷ ys))) last ≡ true
 
-  -- just after a refresh not refused, if the sheet's last accepted opening, between xs and ys, came after the stand's,
-  -- and each refresh accepted since had that opening's card and outside rule; m and m′ are the two calls' masks
-  unfoldable pub SumsRight : Type 0
-  SumsRight =
-      (g : Shape) (k : Marks) (l : List ℕ) (xs ys : List Call) (t : Terms) (opening last : Call) (m m′ : List ℕ)
-      → opening .op ≡ Op.openSheet t m → last .op ≡ Op.refresh t m′
-      → (let start = fresh g k l in
-      let before = xs ++ (opening ∷ ys) in
-      let calls = before ++ (last ∷ []) in
-      Listed g k l calls
-      → accepted (run start xs) opening ≡ true
-      → All (Keeps t) (run start (xs ++ (opening ∷ []))) ys
-      → accepted (run start before) last ≡ true
-      → Right t (run start calls) (book (openBook g) (feed start calls)))
-
-  -- whatever the list, at each accepted refresh the rows of sections neither changed since the mark nor sharing a face with a changed one
-  -- keep their numbers, unless more changes than sections have passed; m is the refresh's mask
-  unfoldable pub RowsKept : Type 0
-  RowsKept =
-      (g : Shape) (k : Marks) (l : List ℕ) (xs : List Call) (t : Terms) (last : Call) (m : List ℕ) (i : ℕ)
-      → last .op ≡ Op.refresh t m
-      → (let start = fresh g k l in
-      let calls = xs ++ (last ∷ []) in
-      let b = book (openBook g) (feed start xs) in
-      let mark = run start xs .marks .sheet in
-      Listed g k l calls
-      → accepted (run start xs) last ≡ true
-      → i < sections (b .shape)
-      → ((d : ℕ) → near (counted (b .shape)) d i ≡ true → Changed b mark d → ⊥)
-      → b .count - mark ≤ sections (b .shape)
-      → rowAt (run start calls .sheet) i ≡ rowAt (run start xs .sheet) i)
+-- whatever the list, the last call is a refresh not refused, section i has neither changed since the mark nor shares a face with one
+-- that has, and no more changes than sections have passed
+pub record Spared (a : Start) (xs : List Call) (last : Call) (i : ℕ) : Type 0 where
+  pub lent : All Lent (fourAfter a []) (xs ++ (last ∷ []))
+  pub terms : Terms
+  pub mask : List ℕ
+  pub refreshes : effectOf (last .op) ≡ Effect.refreshes terms mask
+  pub refreshed : accepted (fourAfter a xs) last ≡ true
+  pub within : i < sections (bookAfter a xs .shape)
+  pub clean : (d : ℕ) → near (counted (bookAfter a xs .shape)) d i ≡ true → Changed (bookAfter a xs) (fourAfter a xs .marks .sheet) d → ⊥
+  pub few : bookAfter a xs .count - fourAfter a xs .marks .sheet ≤ sections (bookAfter a xs .shape)
 
 pub record Claim : Type 0 where
-  -- as demanded
-  pub sums-right : SumsRight Lent
-  pub rows-kept : RowsKept Lent
-  -- and beyond the demand
-  pub sums-right-anew : SumsRight LentAnew
-  pub rows-kept-anew : RowsKept LentAnew
+  -- just after the refresh the sums are right
+  pub sums-right : (a : Start) (xs : List Call) (opening : Call) (ys : List Call) (last : Call) (t : Terms) → Priced a xs opening ys last t
+      → (let calls = xs ++ (opening ∷ ys) ++ (last ∷ []) in Right t (fourAfter a calls) (bookAfter a calls))
+  -- and the row of such a section keeps its numbers
+  pub rows-kept : (a : Start) (xs : List Call) (last : Call) (i : ℕ) → Spared a xs last i
+      → rowAt (fourAfter a (xs ++ (last ∷ [])) .sheet) i ≡ rowAt (fourAfter a xs .sheet) i

@@ -1,5 +1,6 @@
 -- The book, lists of calls, and the claim.
 pub mod Book
+pub mod Breadth
 pub mod Calls
 pub mod Claim
 pub mod Quoted

@@ -7,12 +7,12 @@ use lib.ListN.{replicate}
 use Rattle.stand.specs.Opening.{openedShape}
 use Rattle.stand.specs.Refusal as R
 use Rattle.stand.specs.Refusal.{Answer, gives}
+use Rattle.stand.specs.Storage.{freshState}
 use Rattle.stand.specs.declared.volume.Volume.{Volume}
 use Rattle.sheet.specs.Calls.{Verdict, openCall, refreshCall, refused, totalsCall}
 use Rattle.sheet.specs.Card.{Terms, termsOf}
 use Rattle.sheet.specs.declared.Row.{Row}
 use Rattle.ledger.specs.Calls.{Call, Four, Op, own, run}
-use Rattle.ledger.specs.Claim.{fresh}
 use Rattle.ledger.specs.Trestles.{cell, extent, seventeen}
 
 -- a rate that is not set
@@ -37,7 +37,7 @@ rowIs panels faces cents = record { panels = panels; faces = faces; cents = cent
 
 -- a stand of this many cells along x, just opened
 abbrev pub rowOfCells : ℕ → ℕ → List ℕ → Four
-rowOfCells n mark sheet = fresh (openedShape (cell 0 0 0) (extent n 1 1)) (record { sheet = mark }) sheet
+rowOfCells n mark sheet = record { state = freshState (openedShape (cell 0 0 0) (extent n 1 1)); marks = record { sheet = mark }; sheet = sheet }
 
 -- 17 cells, mark and sheet holding anything
 abbrev pub seventeenAt : ℕ → ℕ → ℕ → ℕ → ℕ → ℕ → ℕ → Four

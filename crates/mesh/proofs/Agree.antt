@@ -9,9 +9,8 @@ use native.Mathlib.Omega.{arith}
 use lib.Dec.{eqb}
 use lib.ListN.{getD, set}
 use lib.Seq.{getD-set-other}
-use Rattle.mesh.specs.Merge.{upto}
 use Rattle.mesh.specs.Scan.{Rect, State, clearOf, clearRect, clearRun, fresh, place, rectAt, rowTo, rowsLen, rowsTo, runLen, scan, slot, stepAt}
-use Rattle.mesh.proofs.Runs.{rows-most, run-alike, run-most}
+use Rattle.mesh.proofs.Runs.{run-alike, run-most}
 use Rattle.mesh.proofs.Upto.{row-fits, upto-same}
 
 -- ---- clearing, slot by slot

@@ -2,24 +2,26 @@
 use mathlib.Core.Path.{_≡_, refl, sym, ap, _∙_, subst}
 use mathlib.Core.Bool.{Bool, true, false, cond}
 use mathlib.Core.List.{List, [], _∷_, _++_, append-assoc, append-nil, map, map-append, map-map}
-use Prim.Native.Nat.{ℕ, zero, suc, _+_, _*_, _/_, _%_, _≤_, _<_}
+use Prim.Native.Nat.{ℕ, zero, suc, _+_, _-_, _*_, _/_, _%_, _≤_, _<_}
 use native.Mathlib.Nat.{add-assoc, add-suc, add-zero, div-eq-of-lt, mod-eq-of-lt, mul-add-div-right, mul-add-mod-self-right, mul-one, suc-add}
 use native.Mathlib.Numerals.{add-one}
 use native.Mathlib.Omega.{arith}
 use borrow.Author.Tests.{eqb-true, eqb-false, eq-eqb, ne-eqb, le-ltb, lt-ltb}
+use borrow.Rule.Slice.PartMut.{mid-len, midOf, post-is, putMid}
 use lib.Dec.{eqb}
 use lib.IntN.{ℤ, pos, _+ℤ_}
-use lib.ListN.{length, length-append, length-map}
-use lib.Seq.{sets}
+use lib.ListN.{drop, length, length-append, length-map, take}
+use lib.Seq.{sets-eq}
 use mir.Syntax.{w32}
 use mir.Val.{SFits}
 use Rattle.arith.proofs.Levels.{number-sum}
 use Rattle.arith.specs.Level.{levelOf, numberOf}
 use Rattle.stand.specs.Cells.{cellOf}
 use Rattle.stand.specs.Shape.{Ranged, Shape, cellFrom, levelsOf}
-use Rattle.stand.specs.Sides.{firstAt, normalAt, secondAt, sideNumber}
+use Rattle.stand.specs.Sides.{axesAt, firstAt, normalAt, secondAt, sideNumber}
 use Rattle.stand.specs.Storage.{extentOf}
 use Rattle.stand.specs.declared.volume.shape.Region.{Region}
+use Rattle.mesh.specs.Axes.{alongAxes, eight}
 use Rattle.mesh.specs.Claims.{ClaimPost}
 use Rattle.mesh.specs.Cover.{Each}
 use Rattle.mesh.specs.Frame.{Lies, StepPost, Wrote, alongFrame, frameOf, nextAt, quadFrom, rectOf}
@@ -48,6 +50,7 @@ side-number (suc (suc (suc (suc (suc (suc s)))))) h = absurd (omega arith)
 -- what the code has of a rectangle: normal, first and second, side, finish, run and rows
 pub record Values (f : Frame) (r : Rect) (a b c s x n m : ℤ) : Type 0 where
   pub side-in : f .side < 6
+  pub axes : f .axes ≡ axesAt (f .side)
   pub normal : a ≡ numberOf (f .normal)
   pub first : b ≡ numberOf (f .first + r .u)
   pub second : c ≡ numberOf (f .second + r .v)
@@ -56,31 +59,40 @@ pub record Values (f : Frame) (r : Rect) (a b c s x n m : ℤ) : Type 0 where
   pub run : n ≡ pos (r .run)
   pub rows : m ≡ pos (r .rows)
 
-module _ {f : Frame} {r : Rect} {a b c s x n m : ℤ} (v : Values f r a b c s x n m) where
-  pub numbers-x : f .side < 2 → a ∷ b ∷ c ∷ s ∷ x ∷ pos 1 ∷ n ∷ m ∷ [] ≡ numbersOf (quadFrom f r)
-  unfolding numbersOf quadFrom alongFrame facing turned firstAt normalAt
-  numbers-x h =
-      let e : f .side / 2 ≡ 0 = omega arith in
-      rw (side-number (f .side) (v .side-in), e)
-      (λ i. v .normal i ∷ v .first i ∷ v .second i ∷ v .side i ∷ v .finish i ∷ pos 1 ∷ v .run i ∷ v .rows i ∷ [])
+-- what holds of the numbers along the axes holds along each axis
+along-turned : (g : ℕ → ℤ) (a s k u v : ℕ) → alongAxes (axesAt s) a (g k) (g u) (g v) ≡ g (turned a s k u v)
+unfolding alongAxes axesAt turned
+along-turned g a s k u v = go (eqb a (normalAt s)) (eqb a (firstAt s))
+  where
+    go : (b c : Bool) → cond b (g k) (cond c (g u) (g v)) ≡ g (cond b k (cond c u v))
+    go true c = refl
+    go false true = refl
+    go false false = refl
 
-  pub numbers-y : 2 ≤ f .side → f .side < 4 → b ∷ a ∷ c ∷ s ∷ x ∷ n ∷ pos 1 ∷ m ∷ [] ≡ numbersOf (quadFrom f r)
-  unfolding numbersOf quadFrom alongFrame facing turned firstAt normalAt
-  numbers-y l h =
-      let e : f .side / 2 ≡ 1 = omega arith in
-      rw (side-number (f .side) (v .side-in), e)
-      (λ i. v .first i ∷ v .normal i ∷ v .second i ∷ v .side i ∷ v .finish i ∷ v .run i ∷ pos 1 ∷ v .rows i ∷ [])
+pub numbers : {f : Frame} {r : Rect} {a b c s x n m : ℤ} → Values f r a b c s x n m → eight (f .axes) a b c s x n m ≡ numbersOf (quadFrom f r)
+unfolding eight numbersOf quadFrom alongFrame facing
+numbers {f} {r} v =
+    (λ i. eight (v .axes i) (v .normal i) (v .first i) (v .second i) (v .side i) (v .finish i) (v .run i) (v .rows i))
+    ∙ (λ i. cell 0 i ∷ cell 1 i ∷ cell 2 i ∷ pos (sym (side-number (f .side) (v .side-in)) i) ∷ pos (r .value) ∷ size 0 i ∷ size 1 i ∷ size 2 i ∷ [])
+  where
+    cell : (a : ℕ) → alongAxes (axesAt (f .side)) a (numberOf (f .normal)) (numberOf (f .first + r .u)) (numberOf (f .second + r .v))
+        ≡ numberOf (turned a (f .side) (f .normal) (f .first + r .u) (f .second + r .v))
+    cell a = along-turned numberOf a (f .side) (f .normal) (f .first + r .u) (f .second + r .v)
 
-  pub numbers-z : 4 ≤ f .side → b ∷ c ∷ a ∷ s ∷ x ∷ n ∷ m ∷ pos 1 ∷ [] ≡ numbersOf (quadFrom f r)
-  unfolding numbersOf quadFrom alongFrame facing turned firstAt normalAt
-  numbers-z l =
-      let e : f .side / 2 ≡ 2 = omega (arith, v .side-in) in
-      rw (side-number (f .side) (v .side-in), e)
-      (λ i. v .first i ∷ v .second i ∷ v .normal i ∷ v .side i ∷ v .finish i ∷ v .run i ∷ v .rows i ∷ pos 1 ∷ [])
+    size : (a : ℕ) → alongAxes (axesAt (f .side)) a (pos 1) (pos (r .run)) (pos (r .rows)) ≡ pos (turned a (f .side) 1 (r .run) (r .rows))
+    size a = along-turned (λ m. pos m) a (f .side) 1 (r .run) (r .rows)
 
-pub put-room : (out : List ℤ) (k : ℕ) (q : Quad) {ns : List ℤ} → k < length out / 8 → ns ≡ numbersOf q → sets out (k * 8) ns ≡ putQuad out k q
-unfolding putQuad
-put-room out k q h e = rw (lt-ltb k (length out / 8) h) (ap (sets out (k * 8)) e)
+-- the eight numbers of panel k, and the list with others in their place
+pub panel-part : (out : List ℤ) (k : ℕ) → k < length out / 8 → length (midOf (k * 8) (k * 8 + 8 - k * 8) out) ≡ 8
+panel-part out k h = mid-len (k * 8) (k * 8 + 8) out (omega arith) ∙ omega arith
+
+pub put-room : (out : List ℤ) (k : ℕ) (q : Quad) {ns : List ℤ} → k < length out / 8 → ns ≡ numbersOf q → putMid (k * 8) (k * 8 + 8 - k * 8) out ns ≡ putQuad out k q
+unfolding putQuad numbersOf
+put-room out k q h e =
+    rw (lt-ltb k (length out / 8) h)
+    ((λ i. take (k * 8) out ++ (e i ++ post-is (k * 8) (k * 8 + 8) out (omega arith) i))
+    ∙ sym (append-assoc (take (k * 8) out) (numbersOf q) (drop (k * 8 + 8) out))
+    ∙ sym (sets-eq (numbersOf q) out (k * 8) (omega arith)))
 
 pub put-full : (out : List ℤ) (k : ℕ) (q : Quad) → length out / 8 ≤ k → out ≡ putQuad out k q
 unfolding putQuad

@@ -1,8 +1,8 @@
 -- A slice laid over a mask, and the call that lays it.
-use mathlib.Core.Path.{_≡_, refl, sym, ap, _∙_, subst}
+use mathlib.Core.Path.{_≡_, refl, sym, ap, _∙_}
 use mathlib.Core.Bool.{Bool, true, false}
 use mathlib.Core.List.{List, [], _∷_, _++_}
-use Prim.Native.Nat.{ℕ, zero, suc, _+_, _*_, _/_, _≤_, _<_}
+use Prim.Native.Nat.{ℕ, zero, suc, _*_, _/_, _≤_, _<_}
 use native.Mathlib.Omega.{arith}
 use borrow.Author.Tests.{le-leb, le-ltb, lt-leb, lt-ltb, ltb-false, ltb-true}
 use lib.Dec.{leb, ltb}
@@ -58,22 +58,21 @@ over-is xs m m₁ h l a b = same-slots m₁ (xs ++ drop (length xs) m) (l ∙ sy
 
 -- ---- a slice laid
 
-module _ (beyond : Bool) (g : Shape) (look : Cell → ℕ) (r : Region) {s t k : ℕ} (e : s ≡ t) where
+module _ (beyond : Bool) (g : Shape) (look : Cell → ℕ) (r : Region) (s : ℕ) {k : ℕ} where
   pub lays : {m m₁ : List ℕ} {a : ℕ} → k < depthOf r s → heightOf r s * widthOf r s ≤ length m
       → Filled m m₁ a 0 (widthOf r s) (widthOf r s) (heightOf r s) (λ u v. shown beyond g look s (cellIn g r s k u v))
-      → m₁ ≡ laidMask beyond g look r t k m
+      → m₁ ≡ laidMask beyond g look r s k m
   unfolding laidMask sliceMask slotShown
   lays {m} {m₁} l h f =
       let n = length-table (slotShown beyond g look r s k) (heightOf r s * widthOf r s) in
-      subst (λ (t : ℕ). m₁ ≡ laidMask beyond g look r t k m) e
-      (rw (lt-ltb k (depthOf r s) l)
+      rw (lt-ltb k (depthOf r s) l)
       (over-is (sliceMask beyond g look r s k) m m₁ (omega (arith, n)) (f .mask .same)
       (λ q lq. whole-at (f .mask) q (omega (arith, n)) ∙ sym (getD-table (slotShown beyond g look r s k) (heightOf r s * widthOf r s) q (omega (arith, n))))
-      (λ q lq. whole-beyond (f .mask) q (omega (arith, n)))))
+      (λ q lq. whole-beyond (f .mask) q (omega (arith, n))))
 
-  pub lays-none : {m : List ℕ} → depthOf r s ≤ k → m ≡ laidMask beyond g look r t k m
+  pub lays-none : {m : List ℕ} → depthOf r s ≤ k → m ≡ laidMask beyond g look r s k m
   unfolding laidMask
-  lays-none {m} l = subst (λ (t : ℕ). m ≡ laidMask beyond g look r t k m) e (rw (le-ltb k (depthOf r s) l))
+  lays-none l = rw (le-ltb k (depthOf r s) l)
 
 -- ---- the call
 
@@ -116,13 +115,13 @@ module _ (v : Volume) (cells : List ℕ) (i : ℕ) (f : Face) (k : ℕ) (beyond 
           turned-by 10 (λ x. omega arith)
           ∙ ap result (sym (by-rest ∙ rw (lt-leb (sections (shapeOf v)) i (chunk-inside v cells e i z l), lt-ltb (length m) (largestSide part) (omega (arith, q)))))
 
-      pub slice-given : {s : Slice} {m₁ m₂ : List ℕ} {r : Region} {o : Bool} → w ≤ length m → o ≡ beyond → r ≡ part → m₁ ≡ clearRun m 0 w
-          → m₂ ≡ laidMask o (shapeOf v) (look (shapeOf v) cells) r (sideNumber f) k m₁ → s ≡ sliceOf (shapeOf v) r f k
+      pub slice-given : {s : Slice} {m₁ m₂ : List ℕ} {r : Region} {o : Bool} {d : ℕ} → w ≤ length m → o ≡ beyond → d ≡ sideNumber f → r ≡ part → m₁ ≡ clearRun m 0 w
+          → m₂ ≡ laidMask o (shapeOf v) (look (shapeOf v) cells) r d k m₁ → s ≡ sliceOf (shapeOf v) r f k
           → slicedOf (gives s) m₂ ≡ sliceCall v cells i f k beyond m
       unfolding sliceCall first sliced
-      slice-given {s} {m₁} {m₂} h p r c a b =
+      slice-given {s} {m₁} {m₂} h p d r c a b =
           let x : m₁ ≡ wiped (largestSide part) m = c ∙ cleared-wiped w m h ∙ ap (λ (j : ℕ). wiped j m) q in
-          let y = a ∙ (λ j. laidMask (p j) (shapeOf v) (look (shapeOf v) cells) (r j) (sideNumber f) k (x j)) in
+          let y = a ∙ (λ j. laidMask (p j) (shapeOf v) (look (shapeOf v) cells) (r j) (d j) k (x j)) in
           let t = b ∙ (λ j. sliceOf (shapeOf v) (r j) f k) in
           let u : first (listRules 4096 v (length cells) ++ rest) ≡ 0 =
           by-rest ∙ rw (lt-leb (sections (shapeOf v)) i (chunk-inside v cells e i z l), le-ltb (length m) (largestSide part) (omega (arith, q))) in

@@ -24,6 +24,8 @@ pub mod Shown
 pub mod Slices
 pub mod Slicing
 pub mod Step
+pub mod Tables
 pub mod Tiling
 pub mod Upto
 pub mod Wanting
+pub mod Whole

@@ -1,5 +1,5 @@
 -- Where a slice of a part with a cell lies.
-use mathlib.Core.Path.{_≡_, sym, ap, _∙_, subst}
+use mathlib.Core.Path.{_≡_, sym, _∙_, subst}
 use Prim.Native.Nat.{ℕ, zero, suc, _+_, _^_, _≤_, _<_}
 use native.Mathlib.Omega.{arith}
 use borrow.Author.Tests.{le-ltb, lt-ltb}
@@ -12,6 +12,7 @@ use Rattle.stand.specs.declared.Cell.{Cell}
 use Rattle.stand.specs.declared.Face.{Face}
 use Rattle.stand.specs.declared.volume.shape.Point.{Point}
 use Rattle.stand.proofs.Shape.{Within}
+use Rattle.stand.proofs.Sides.{side-lt}
 use Rattle.mesh.specs.Lay.{SomePart, sliceOf}
 use Rattle.mesh.specs.Part.{added, cellIn, depthOf, facing, heightOf, onAxis, widthOf}
 use Rattle.mesh.specs.Tiles.{partOf}
@@ -70,22 +71,16 @@ module _ {g : Shape} {p : Part} (part : SomePart g p) where
         (from-level (g .origin .y) (l .y) (d .y) (part .ranged .y) (omega (arith, in-part .y, last-on 1)) i)
         (from-level (g .origin .z) (l .z) (d .z) (part .ranged .z) (omega (arith, in-part .z, last-on 2)) i)
 
-  -- ---- by the code's number s of side f
+  -- ---- of side f
 
   module _ (f : Face) {k : ℕ} where
-    module _ {s : ℕ} {d : Point} (n : (s ≡ sideNumber f) × (s < 6)) (deep : k < depthOf (partOf g p) (sideNumber f)) (e : d ≡ facing s k 0 0) where
-      side-in : sideNumber f < 6
-      side-in = subst (λ (s : ℕ). s < 6) (n .0) (n .1)
-
-      steps : d ≡ facing (sideNumber f) k 0 0
-      steps = e ∙ ap (λ (s : ℕ). facing s k 0 0) (n .0)
-
+    module _ {d : Point} (deep : k < depthOf (partOf g p) (sideNumber f)) (e : d ≡ facing (sideNumber f) k 0 0) where
       pub steps-below : Below (2 ^ 63) d
-      steps-below = subst (Below (2 ^ 63)) (sym steps) (facing-small (sideNumber f) k side-in deep)
+      steps-below = subst (Below (2 ^ 63)) (sym e) (facing-small (sideNumber f) k (side-lt f) deep)
 
       -- the slice's lowest cell
       pub lowest-cell : cellUp (p .low) d ≡ cellIn g (partOf g p) (sideNumber f) k 0 0
-      lowest-cell = (λ i. cellUp (part .part .low i) (steps i)) ∙ lowest-at (sideNumber f) k side-in deep
+      lowest-cell = (λ i. cellUp (part .part .low i) (e i)) ∙ lowest-at (sideNumber f) k (side-lt f) deep
 
     module _ {c : Cell} where
       pub slice-past : depthOf (partOf g p) (sideNumber f) ≤ k → c ≡ cellIn g (partOf g p) (sideNumber f) 0 0 0 → sliceAt c f 0 0 ≡ sliceOf g (partOf g p) f k

@@ -67,6 +67,7 @@ module _ (g : Shape) (o : opens g ≡ true) where
       region-lies s k hs hk =
           record {
             side = hs;
+            axes = refl;
             normal = omega (arith, levels-on (normalAt s));
             first = levels-on (firstAt s);
             second = levels-on (secondAt s);

@@ -34,8 +34,8 @@ use Rattle.mesh.proofs.Slices.{seen-sum}
 
 -- ---- where a slice lies
 
-abbrev pub frameFrom : ℕ → ℕ → ℕ → ℕ → ℕ → ℕ → Frame
-frameFrom s n a b w h = record { side = s; normal = n; first = a; second = b; width = w; height = h }
+abbrev pub frameFrom : ℕ → Axes → ℕ → ℕ → ℕ → ℕ → ℕ → Frame
+frameFrom s x n a b w h = record { side = s; axes = x; normal = n; first = a; second = b; width = w; height = h }
 
 pub slice-lies : {g : Shape} {p : Part} {s k : ℕ} → SliceLies g p s k → Lies (frameOf g (partOf g p) s k)
 slice-lies {g} {p} {s} {k} l = region-lies g (l .opened) (partOf g p) (l .within) (l .ranged) s k (l .side) (l .slice)
@@ -47,12 +47,12 @@ normal-fits l e pn = omega (arith, slice-lies l .normal, pn ∙ (λ j. onAxis (e
 pub frame-made : {g : Shape} {p : Part} {s k n a b w h : ℕ} {axes : Axes} → SliceLies g p s k → axes ≡ axesAt s
     → n ≡ onAxis (axes .normal) (p .low) → a ≡ onAxis (axes .first) (p .low) → b ≡ onAxis (axes .second) (p .low)
     → w ≡ onAxis (axes .first) (p .count) → h ≡ onAxis (axes .second) (p .count)
-    → frameFrom s (n + k) a b w h ≡ frameOf g (partOf g p) s k
+    → frameFrom s axes (n + k) a b w h ≡ frameOf g (partOf g p) s k
 unfolding frameOf axesAt widthOf heightOf
 frame-made {s = s} {k} l e pn pa pb pw ph =
     let low = l .part .low in
     let count = l .part .count in
-    λ i. frameFrom s
+    λ i. frameFrom s (e i)
     ((pn ∙ (λ j. onAxis (e j .normal) (low j))) i + k)
     ((pa ∙ (λ j. onAxis (e j .first) (low j))) i)
     ((pb ∙ (λ j. onAxis (e j .second) (low j))) i)
@@ -123,10 +123,10 @@ module _ (beyond : Bool) (g : Shape) (look : Cell → ℕ) (r : Region) {m₀ m�
   unfolding sidePanels
   side-more s k a b = rw add-one (listed-more a b)
 
-  pub sides-more : (s : ℕ) → Listed (panelsTo beyond g look r s) m₀ m₁ out₀ out₁ n₀ n₁ → Listed (sidePanels beyond g look r s (depthOf r s)) m₁ m₂ out₁ out₂ n₁ n₂
+  pub sides-more : {s t : ℕ} → t ≡ s → Listed (panelsTo beyond g look r s) m₀ m₁ out₀ out₁ n₀ n₁ → Listed (sidePanels beyond g look r t (depthOf r t)) m₁ m₂ out₁ out₂ n₁ n₂
       → Listed (panelsTo beyond g look r (s + 1)) m₀ m₂ out₀ out₂ n₀ n₂
   unfolding panelsTo
-  sides-more s a b = rw add-one (listed-more a b)
+  sides-more e a b = rw add-one (listed-more a (subst (λ (s : ℕ). Listed (sidePanels beyond g look r s (depthOf r s)) m₁ m₂ out₁ out₂ n₁ n₂) e b))
 
 -- ---- all sides
 

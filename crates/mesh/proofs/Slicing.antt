@@ -40,18 +40,6 @@ use Rattle.mesh.proofs.Scanned.{Fits, by-step, claimed, scan-cleared, s
 -- ---- along the axes
 
 module _ (s k u v : ℕ) where
-  pub facing-x : s < 2 → pointOf k u v ≡ facing s k u v
-  unfolding facing turned firstAt normalAt
-  facing-x h = let e : s / 2 ≡ 0 = omega arith in rw e
-
-  pub facing-y : 2 ≤ s → s < 4 → pointOf u k v ≡ facing s k u v
-  unfolding facing turned firstAt normalAt
-  facing-y l h = let e : s / 2 ≡ 1 = omega arith in rw e
-
-  pub facing-z : 4 ≤ s → s < 6 → pointOf u v k ≡ facing s k u v
-  unfolding facing turned firstAt normalAt
-  facing-z l h = let e : s / 2 ≡ 2 = omega arith in rw e
-
   module _ {m : ℕ} (hk : k < m) (hu : u < m) (hv : v < m) where
     turned-below : (a : ℕ) → turned a s k u v < m
     unfolding turned

@@ -9,7 +9,7 @@ use lib.ListN.{length}
 use Rattle.arith.specs.Level.{numberOf}
 use Rattle.stand.specs.Cells.{cellOf}
 use Rattle.stand.specs.Shape.{Shape, levelsOf, maxChunks}
-use Rattle.stand.specs.Sides.{firstAt, normalAt, secondAt}
+use Rattle.stand.specs.Sides.{axesAt, firstAt, normalAt, secondAt}
 use Rattle.stand.specs.Storage.{extentOf}
 use Rattle.stand.specs.declared.volume.shape.Region.{Region}
 use Rattle.mesh.specs.Panels.{faceOf}
@@ -25,6 +25,7 @@ unfoldable pub frameOf : Shape → Region → ℕ → ℕ → Frame
 frameOf g r s k =
     record {
       side = s;
+      axes = axesAt s;
       normal = onAxis (normalAt s) (added (levelsOf (g .origin)) (r .low)) + k;
       first = onAxis (firstAt s) (added (levelsOf (g .origin)) (r .low));
       second = onAxis (secondAt s) (added (levelsOf (g .origin)) (r .low));
@@ -51,9 +52,10 @@ rectOf u v run rows value = record { u = u; v = v; run = run; rows = rows; value
 
 -- ---- for the code
 
--- a side, levels of i32, and a width and height that a stand can have
+-- a side and its axes, levels of i32, and a width and height that a stand can have
 pub record Lies (f : Frame) : Type 0 where
   pub side : f .side < 6
+  pub axes : f .axes ≡ axesAt (f .side)
   pub normal : f .normal < 4294967296
   pub first : f .first + f .width ≤ 4294967296
   pub second : f .second + f .height ≤ 4294967296

@@ -1,4 +1,5 @@
 -- The definitions that the contracts of `mesh` cite.
+pub mod Axes
 pub mod Claims
 pub mod Cover
 pub mod Faces

@@ -1,19 +1,23 @@
 // The visible finishes of one slice of a section, laid into a mask, from which `Slice::claim` takes the panels.
 ghost use mathlib.Core.Path.{_≡_};
 ghost use mathlib.Core.Bool.{true};
+ghost use Prim.Native.Nat.{_<_};
 ghost use Rattle.stand.specs.Edit.{look};
 ghost use Rattle.stand.specs.Shape.{shapeOf, wellFormed};
 ghost use Rattle.stand.specs.Sides.{sideNumber};
+ghost use Rattle.mesh.specs.Axes.{Read, sideOf};
 ghost use Rattle.mesh.specs.Lay.{SomePart, laidMask, sliceAnswer, sliceCall, sliceOf, slicedOf};
 ghost use Rattle.mesh.specs.Tiles.{MeshIn, partOf};
 ghost use Rattle.mesh.specs.Visible.{emptyBeyond};
 use crate::Beyond;
+use crate::axes::Side;
+use crate::axes::on_axis;
+use crate::axes::side_of;
+use crate::axes::to_axes;
 use crate::claim::clear_run;
 use crate::faces::is_empty_beyond;
-use crate::part::on_axis;
 use crate::slice::Slice;
 use crate::slice::cell_up;
-use crate::slice::turn;
 use crate::tiles::Part;
 use crate::tiles::fill_part;
 use crate::tiles::largest;
@@ -29,16 +33,14 @@ pub enum SliceAnswer {
 }
 
 // Where a slice of a part lies.
-fn slice_in(v: Volume, p: Part, face: Face, slice: usize) -> Slice
-    requires { ⌜ SomePart (shapeOf v) p ⌝ }
+fn slice_in(v: Volume, p: Part, face: Face, side: Side, slice: usize) -> Slice
+    requires { ⌜ SomePart (shapeOf v) p × (side ≡ sideOf (sideNumber face)) ⌝ }
     ensures { λ r. ⌜ r ≡ sliceOf (shapeOf v) (partOf (shapeOf v) p) face slice ⌝ }
 {
-    let side = face.number();
-    let axes = face.axes();
     let low = p.low;
     let n = p.count;
-    if on_axis(n, axes.normal) <= slice as u64 {
-        let lowest = turn(side, 0, 0, 0);
+    if on_axis(n, side.axes.normal) <= slice as u64 {
+        let lowest = to_axes(side.axes.normal, 0, 0, 0);
         let cell = cell_up(low, lowest);
         return Slice {
             cell,
@@ -47,10 +49,10 @@ fn slice_in(v: Volume, p: Part, face: Face, slice: usize) -> Slice
             height: 0,
         };
     }
-    let d = turn(side, slice as u64, 0, 0);
+    let d = to_axes(side.axes.normal, slice as u64, 0, 0);
     let cell = cell_up(low, d);
-    let width = on_axis(n, axes.first);
-    let height = on_axis(n, axes.second);
+    let width = on_axis(n, side.axes.first);
+    let height = on_axis(n, side.axes.second);
     Slice {
         cell,
         face,
@@ -65,20 +67,18 @@ fn lay_slice(
     cells: &[u16],
     v: Volume,
     p: Part,
-    face: Face,
+    side: Side,
     slice: usize,
     beyond: bool,
 )
-    requires { ⌜ (wellFormed v ≡ true) × MeshIn (shapeOf v) (now cells) (now mask) p ⌝ }
-    ensures { λ _. ⌜ now (mask .exit) ≡ laidMask beyond (shapeOf v) (look (shapeOf v) (now (cells .entry))) (partOf (shapeOf v) p) (sideNumber face) slice (now (mask .entry)) ⌝ }
+    requires { ⌜ (wellFormed v ≡ true) × MeshIn (shapeOf v) (now cells) (now mask) p × (side .number < 6) × Read side ⌝ }
+    ensures { λ _. ⌜ now (mask .exit) ≡ laidMask beyond (shapeOf v) (look (shapeOf v) (now (cells .entry))) (partOf (shapeOf v) p) (side .number) slice (now (mask .entry)) ⌝ }
 {
-    let side = face.number();
-    let axes = face.axes();
     let n = p.count;
-    if on_axis(n, axes.normal) <= slice as u64 {
+    if on_axis(n, side.axes.normal) <= slice as u64 {
         return;
     }
-    let _ = fill_part(mask, cells, v, p, side, axes, slice, beyond);
+    let _ = fill_part(mask, cells, v, p, side, slice, beyond);
 }
 
 // Lays a slice of a section into a mask. Rules out finishes that a face does not show, and what an earlier slice left.
@@ -107,7 +107,8 @@ pub fn chunk_slice(
     }
     clear_run(mask, 0, want);
     let outside = is_empty_beyond(beyond);
-    lay_slice(mask, cells, v, p, face, slice, outside);
-    let s = slice_in(v, p, face, slice);
+    let side = side_of(face);
+    lay_slice(mask, cells, v, p, side, slice, outside);
+    let s = slice_in(v, p, face, side, slice);
     SliceAnswer::Is(s)
 }

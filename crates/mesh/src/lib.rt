@@ -9,6 +9,7 @@ use stand::volume::Extent;
 use stand::volume::answer::NumberAnswer;
 use stand::volume::shape::counts;
 
+pub mod axes;
 mod claim;
 pub mod faces;
 pub mod lay;

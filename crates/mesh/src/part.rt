@@ -1,16 +1,17 @@
 // A section of the stand along its axes, and the mask of one of its slices.
 ghost use mathlib.Core.Path.{_≡_};
-ghost use mathlib.Core.Bool.{true};
-ghost use Prim.Native.Nat.{_<_, _≤_, _*_, _-_, _%_, min};
+ghost use mathlib.Core.Bool.{true, false};
+ghost use Prim.Native.Nat.{_<_, _≤_, _*_, _-_, min};
 ghost use Rattle.stand.specs.Shape.{chunkPlace, product, sections, shapeOf, wellFormed};
-ghost use Rattle.stand.specs.Sides.{axesAt, normalAt};
-ghost use Rattle.mesh.specs.Part.{heightOf, onAxis, sectionPart, widthOf};
+ghost use Rattle.mesh.specs.Axes.{Read};
+ghost use Rattle.mesh.specs.Part.{heightOf, sectionPart, widthOf};
 ghost use Rattle.mesh.specs.Plane.{Filled};
 ghost use Rattle.mesh.specs.Step.{Follows, SectionIs, SliceIn, SliceOf, gridOf, hopOn, sliceShown, strideOn};
+use crate::axes::Side;
+use crate::axes::on_axis;
 use crate::plane::Grid;
 use crate::plane::fill_outer;
 use crate::plane::fill_plane;
-use stand::Axes;
 use stand::volume::CHUNK;
 use stand::volume::Volume;
 use stand::volume::shape::Point;
@@ -33,18 +34,6 @@ pub enum Next {
     At(usize, usize),
     Open,
     Shut,
-}
-
-pub(crate) fn on_axis(p: Point, a: usize) -> u64
-    ensures { λ r. ⌜ r ≡ onAxis a p ⌝ }
-{
-    if a == 0 {
-        return p.x;
-    }
-    if a == 1 {
-        return p.y;
-    }
-    p.z
 }
 
 // How far apart the indices of neighbouring cells of a section are along an axis.
@@ -132,18 +121,11 @@ pub(crate) fn section_of(v: Volume, chunk: usize) -> Section
 }
 
 // One step up from a slice.
-fn next_up(
-    v: Volume,
-    c: Section,
-    chunk: usize,
-    side: usize,
-    normal: usize,
-    slice: usize,
-    beyond: bool,
-) -> Next
-    requires { ⌜ SliceOf (shapeOf v) c chunk side slice × (normal ≡ normalAt side) × (side % 2 ≡ 0) ⌝ }
-    ensures { λ r. ⌜ Follows (shapeOf v) beyond chunk side slice r ⌝ }
+fn next_up(v: Volume, c: Section, chunk: usize, side: Side, slice: usize, beyond: bool) -> Next
+    requires { ⌜ SliceOf (shapeOf v) c chunk (side .number) slice × Read side × (side .up ≡ true) ⌝ }
+    ensures { λ r. ⌜ Follows (shapeOf v) beyond chunk (side .number) slice r ⌝ }
 {
+    let normal = side.axes.normal;
     let count = c.count;
     if slice as u64 + 1 < on_axis(count, normal) {
         return Next::At(chunk, slice + 1);
@@ -164,21 +146,14 @@ fn next_up(
 }
 
 // One step down from a slice.
-fn next_down(
-    v: Volume,
-    c: Section,
-    chunk: usize,
-    side: usize,
-    normal: usize,
-    slice: usize,
-    beyond: bool,
-) -> Next
-    requires { ⌜ SliceOf (shapeOf v) c chunk side slice × (normal ≡ normalAt side) × (side % 2 ≡ 1) ⌝ }
-    ensures { λ r. ⌜ Follows (shapeOf v) beyond chunk side slice r ⌝ }
+fn next_down(v: Volume, c: Section, chunk: usize, side: Side, slice: usize, beyond: bool) -> Next
+    requires { ⌜ SliceOf (shapeOf v) c chunk (side .number) slice × Read side × (side .up ≡ false) ⌝ }
+    ensures { λ r. ⌜ Follows (shapeOf v) beyond chunk (side .number) slice r ⌝ }
 {
     if 0 < slice {
         return Next::At(chunk, slice - 1);
     }
+    let normal = side.axes.normal;
     let place = c.place;
     if 0 < on_axis(place, normal) {
         let chunks = c.chunks;
@@ -195,32 +170,24 @@ fn next_down(
 }
 
 // What lies one step on from a slice. Rules out a step that wraps at the ends of i32, and the outside where a section follows.
-fn next_of(
-    v: Volume,
-    c: Section,
-    chunk: usize,
-    side: usize,
-    normal: usize,
-    slice: usize,
-    beyond: bool,
-) -> Next
-    requires { ⌜ SliceOf (shapeOf v) c chunk side slice × (normal ≡ normalAt side) ⌝ }
-    ensures { λ r. ⌜ Follows (shapeOf v) beyond chunk side slice r ⌝ }
+fn next_of(v: Volume, c: Section, chunk: usize, side: Side, slice: usize, beyond: bool) -> Next
+    requires { ⌜ SliceOf (shapeOf v) c chunk (side .number) slice × Read side ⌝ }
+    ensures { λ r. ⌜ Follows (shapeOf v) beyond chunk (side .number) slice r ⌝ }
 {
-    if side % 2 == 0 {
-        return next_up(v, c, chunk, side, normal, slice, beyond);
+    if side.up {
+        return next_up(v, c, chunk, side, slice, beyond);
     }
-    next_down(v, c, chunk, side, normal, slice, beyond)
+    next_down(v, c, chunk, side, slice, beyond)
 }
 
-fn grid_of(count: Point, axes: Axes) -> Grid
-    ensures { λ r. ⌜ r ≡ gridOf count axes ⌝ }
+fn grid_of(count: Point, side: Side) -> Grid
+    ensures { λ r. ⌜ r ≡ gridOf count (side .axes) ⌝ }
 {
-    let normal = stride_on(axes.normal);
-    let first = stride_on(axes.first);
-    let second = stride_on(axes.second);
-    let w = on_axis(count, axes.first) as usize;
-    let h = on_axis(count, axes.second) as usize;
+    let normal = stride_on(side.axes.normal);
+    let first = stride_on(side.axes.first);
+    let second = stride_on(side.axes.second);
+    let w = on_axis(count, side.axes.first) as usize;
+    let h = on_axis(count, side.axes.second) as usize;
     Grid {
         normal,
         first,
@@ -239,17 +206,16 @@ pub(crate) fn fill_slice(
     v: Volume,
     c: Section,
     chunk: usize,
-    side: usize,
-    axes: Axes,
+    side: Side,
     slice: usize,
     beyond: bool,
 ) -> u16
-    requires { ⌜ SliceIn (shapeOf v) (now cells) (now mask) c chunk side slice to pitch × (axes ≡ axesAt side) ⌝ }
-    ensures { λ r. ⌜ Filled (now (mask .entry)) (now (mask .exit)) r to pitch (widthOf (sectionPart (shapeOf v) chunk) side) (heightOf (sectionPart (shapeOf v) chunk) side) (sliceShown beyond (shapeOf v) (now (cells .entry)) chunk side slice) ⌝ }
+    requires { ⌜ SliceIn (shapeOf v) (now cells) (now mask) c chunk (side .number) slice to pitch × Read side ⌝ }
+    ensures { λ r. ⌜ Filled (now (mask .entry)) (now (mask .exit)) r to pitch (widthOf (sectionPart (shapeOf v) chunk) (side .number)) (heightOf (sectionPart (shapeOf v) chunk) (side .number)) (sliceShown beyond (shapeOf v) (now (cells .entry)) chunk (side .number) slice) ⌝ }
 {
-    let next = next_of(v, c, chunk, side, axes.normal, slice, beyond);
+    let next = next_of(v, c, chunk, side, slice, beyond);
     let count = c.count;
-    let g = grid_of(count, axes);
+    let g = grid_of(count, side);
     let at = slice * g.normal;
     let from = chunk * CELLS;
     let end = from + CELLS;

@@ -1,19 +1,20 @@
 // The scan of a slice's mask: its rectangles are claimed in order and written as panels.
 ghost use mathlib.Core.Path.{_≡_};
-ghost use mathlib.Core.List.{[], _∷_};
-ghost use Prim.Native.Nat.{_+_, _<_, _≤_};
+ghost use Prim.Native.Nat.{_<_};
 ghost use lib.IntN.{pos};
 ghost use lib.ListN.{length};
-ghost use lib.Seq.{sets};
+ghost use Rattle.mesh.specs.Axes.{AxesOf, eight};
 ghost use Rattle.mesh.specs.Frame.{PutPre, RowPre, ScanPost, ScanPre, StepPost, StepPre, Wrote, quadFrom, rectOf};
 ghost use Rattle.mesh.specs.Quad.{putQuad};
 ghost use Rattle.mesh.specs.Scan.{fresh, rowTo};
 use crate::claim::claim_at;
 use arith::level::from_level;
+use stand::Axes;
 
-// Where a slice lies: its side, the levels of its lowest cell along the side's normal, first and second axis, and its slots along first and second.
+// Where a slice lies: its side and that side's axes, the levels of its lowest cell along normal, first and second, and its slots along first and second.
 pub struct Frame {
     pub side: usize,
+    pub axes: Axes,
     pub normal: u64,
     pub first: u64,
     pub second: u64,
@@ -41,32 +42,35 @@ fn wide(x: u16) -> usize
     x as usize
 }
 
+// The eight numbers of a panel: a, b, c along normal, first and second, then side and finish, then 1, n, m along the same axes.
 fn put8(
-    out: &mut [i32],
-    at: usize,
-    x: i32,
-    y: i32,
-    z: i32,
+    panel: &mut [i32],
+    axes: Axes,
+    a: i32,
+    b: i32,
+    c: i32,
     side: i32,
-    voxel: i32,
-    ex: i32,
-    ey: i32,
-    ez: i32,
+    finish: i32,
+    n: i32,
+    m: i32,
 )
-    requires { ⌜ at + 8 ≤ length (now out) ⌝ }
-    ensures { λ _. ⌜ now (out .exit) ≡ sets (now (out .entry)) at (x ∷ y ∷ z ∷ side ∷ voxel ∷ ex ∷ ey ∷ ez ∷ []) ⌝ }
+    requires { ⌜ (length (now panel) ≡ 8) × AxesOf axes ⌝ }
+    ensures { λ _. ⌜ now (panel .exit) ≡ eight axes a b c side finish n m ⌝ }
 {
-    out[at] = x;
-    out[at + 1] = y;
-    out[at + 2] = z;
-    out[at + 3] = side;
-    out[at + 4] = voxel;
-    out[at + 5] = ex;
-    out[at + 6] = ey;
-    out[at + 7] = ez;
+    let normal = axes.normal;
+    let first = axes.first;
+    let second = axes.second;
+    panel[normal] = a;
+    panel[first] = b;
+    panel[second] = c;
+    panel[3] = side;
+    panel[4] = finish;
+    panel[5 + normal] = 1;
+    panel[5 + first] = n;
+    panel[5 + second] = m;
 }
 
-// Panel number `k` of the list, if the list has room for it. A branch on the side is faster than an array of axes.
+// Panel number `k` of the list, if the list has room for it.
 fn put_quad(
     out: &mut [i32],
     k: usize,
@@ -83,23 +87,18 @@ fn put_quad(
     if out.len() / 8 <= k {
         return;
     }
-    let side = f.side;
     let a = from_level(f.normal);
     let b = from_level(f.first + (u as u64));
     let c = from_level(f.second + (v as u64));
-    let s = int(side);
+    let s = int(f.side);
     let x = int(wide(value));
     let n = int(run);
     let m = int(rows);
-    if side < 2 {
-        put8(out, k * 8, a, b, c, s, x, 1, n, m);
-        return;
-    }
-    if side < 4 {
-        put8(out, k * 8, b, a, c, s, x, n, 1, m);
-        return;
-    }
-    put8(out, k * 8, b, c, a, s, x, n, m, 1);
+    let axes = f.axes;
+    let at = k * 8;
+    let end = at + 8;
+    let panel = &mut out[at..end];
+    put8(panel, axes, a, b, c, s, x, n, m);
 }
 
 // What slot (u, v), at `at`, adds.

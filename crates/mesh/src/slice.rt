@@ -1,13 +1,13 @@
 // Panels claimed one at a time, from a mask that the caller lends.
 ghost use mathlib.Core.Path.{_≡_};
-ghost use Prim.Native.Nat.{_+_, _<_, _^_};
+ghost use Prim.Native.Nat.{_+_, _^_};
 ghost use Rattle.arith.specs.Level.{numberOf};
 ghost use Rattle.stand.specs.Cells.{cellOf};
 ghost use Rattle.stand.specs.Shape.{Below};
 ghost use Rattle.mesh.specs.Frame.{rectOf};
-ghost use Rattle.mesh.specs.Part.{facing};
 ghost use Rattle.mesh.specs.Slice.{PanelPre, claimCall, claimedAnswer, heldExtent, outcomeOf, quadIn, shifted};
 use crate::Quad;
+use crate::axes::to_axes;
 use crate::claim::claim_at;
 use crate::claim::next_seen;
 use arith::level::from_level;
@@ -30,20 +30,6 @@ pub struct Slice {
 pub enum Claimed {
     Quad(Quad, usize),
     None,
-}
-
-// Along the axes: k on the side's normal, u on its first axis, v on its second.
-pub(crate) fn turn(side: usize, k: u64, u: u64, v: u64) -> Point
-    requires { ⌜ side < 6 ⌝ }
-    ensures { λ r. ⌜ r ≡ facing side k u v ⌝ }
-{
-    if side < 2 {
-        return Point { x: k, y: u, z: v };
-    }
-    if side < 4 {
-        return Point { x: u, y: k, z: v };
-    }
-    Point { x: u, y: v, z: k }
 }
 
 // The cell d up from levels l, saturating.
@@ -83,9 +69,9 @@ fn panel_of(s: Slice, u: usize, v: usize, run: usize, rows: usize, value: u16) -
 {
     let face = s.face;
     let low = s.cell;
-    let side = face.number();
-    let d = turn(side, 0, u as u64, v as u64);
-    let e = turn(side, 1, run as u64, rows as u64);
+    let axes = face.axes();
+    let d = to_axes(axes.normal, 0, u as u64, v as u64);
+    let e = to_axes(axes.normal, 1, run as u64, rows as u64);
     let cell = shift(low, d);
     let extent = hold(e);
     let voxel = Voxel(value);

@@ -3,15 +3,15 @@ ghost use mathlib.Core.Path.{_≡_};
 ghost use mathlib.Core.Bool.{true};
 ghost use Prim.Native.Nat.{_<_, _+_, _-_, _*_, max, min};
 ghost use Rattle.stand.specs.Shape.{Below, maxChunks, sectionAt, sections, shapeOf, wellFormed};
-ghost use Rattle.stand.specs.Sides.{axesAt};
+ghost use Rattle.mesh.specs.Axes.{Read};
 ghost use Rattle.mesh.specs.Part.{depthOf, heightOf, sectionPart, wholePart, widthOf};
 ghost use Rattle.mesh.specs.Plane.{Filled};
 ghost use Rattle.mesh.specs.Tiles.{BandIn, PartIs, SideIn, TileIn, bandShown, partOf, partShown, tilePlace};
+use crate::axes::Side;
+use crate::axes::on_axis;
+use crate::axes::to_axes;
 use crate::part::fill_slice;
-use crate::part::on_axis;
 use crate::part::section_of;
-use crate::slice::turn;
-use stand::Axes;
 use stand::volume::Volume;
 use stand::volume::shape::Point;
 use stand::volume::shape::counts;
@@ -90,13 +90,13 @@ pub(crate) fn largest(p: Part) -> u64
 }
 
 // The index of the section at d along the side's normal, a along its first axis, b along its second.
-fn tile_at(p: Part, side: usize, d: u64, a: u64, b: u64) -> usize
-    requires { ⌜ TileIn p side d a b ⌝ }
-    ensures { λ r. ⌜ r ≡ sectionAt (p .chunks) (tilePlace p side d a b) ⌝ }
+fn tile_at(p: Part, side: Side, d: u64, a: u64, b: u64) -> usize
+    requires { ⌜ TileIn p (side .number) d a b × Read side ⌝ }
+    ensures { λ r. ⌜ r ≡ sectionAt (p .chunks) (tilePlace p (side .number) d a b) ⌝ }
 {
     let k = p.chunks;
     let place = p.place;
-    let t = turn(side, d, a, b);
+    let t = to_axes(side.axes.normal, d, a, b);
     let x = place.x + t.x;
     let y = place.y + t.y;
     let z = place.z + t.z;
@@ -111,19 +111,18 @@ fn fill_band(
     cells: &[u16],
     v: Volume,
     p: Part,
-    side: usize,
-    axes: Axes,
+    side: Side,
     slice: usize,
     b: usize,
     beyond: bool,
 ) -> u16
-    requires { ⌜ BandIn (shapeOf v) (now cells) (now mask) p side slice b × (axes ≡ axesAt side) × (wellFormed v ≡ true) ⌝ }
-    ensures { λ r. ⌜ Filled (now (mask .entry)) (now (mask .exit)) r (b * 16 * widthOf (partOf (shapeOf v) p) side) (widthOf (partOf (shapeOf v) p) side) (widthOf (partOf (shapeOf v) p) side) (min 16 (heightOf (partOf (shapeOf v) p) side - b * 16)) (bandShown beyond (shapeOf v) (now (cells .entry)) p side slice b) ⌝ }
+    requires { ⌜ BandIn (shapeOf v) (now cells) (now mask) p (side .number) slice b × Read side × (wellFormed v ≡ true) ⌝ }
+    ensures { λ r. ⌜ Filled (now (mask .entry)) (now (mask .exit)) r (b * 16 * widthOf (partOf (shapeOf v) p) (side .number)) (widthOf (partOf (shapeOf v) p) (side .number)) (widthOf (partOf (shapeOf v) p) (side .number)) (min 16 (heightOf (partOf (shapeOf v) p) (side .number) - b * 16)) (bandShown beyond (shapeOf v) (now (cells .entry)) p (side .number) slice b) ⌝ }
 {
     let count = p.count;
     let across = p.across;
-    let w = on_axis(count, axes.first) as usize;
-    let n = on_axis(across, axes.first) as usize;
+    let w = on_axis(count, side.axes.first) as usize;
+    let n = on_axis(across, side.axes.first) as usize;
     let to = b * 16 * w;
     let k = slice % 16;
     let mut any: u16 = 0;
@@ -132,7 +131,7 @@ fn fill_band(
         let chunk = tile_at(p, side, (slice / 16) as u64, a as u64, b as u64);
         let c = section_of(v, chunk);
         let at = to + a * 16;
-        let some = fill_slice(mask, at, w, cells, v, c, chunk, side, axes, k, beyond);
+        let some = fill_slice(mask, at, w, cells, v, c, chunk, side, k, beyond);
         any = any | some;
         a += 1;
     }
@@ -145,20 +144,19 @@ pub(crate) fn fill_part(
     cells: &[u16],
     v: Volume,
     p: Part,
-    side: usize,
-    axes: Axes,
+    side: Side,
     slice: usize,
     beyond: bool,
 ) -> u16
-    requires { ⌜ SideIn (shapeOf v) (now cells) (now mask) p side × (axes ≡ axesAt side) × (slice < depthOf (partOf (shapeOf v) p) side) × (wellFormed v ≡ true) ⌝ }
-    ensures { λ r. ⌜ Filled (now (mask .entry)) (now (mask .exit)) r 0 (widthOf (partOf (shapeOf v) p) side) (widthOf (partOf (shapeOf v) p) side) (heightOf (partOf (shapeOf v) p) side) (partShown beyond (shapeOf v) (now (cells .entry)) p side slice) ⌝ }
+    requires { ⌜ SideIn (shapeOf v) (now cells) (now mask) p (side .number) × Read side × (slice < depthOf (partOf (shapeOf v) p) (side .number)) × (wellFormed v ≡ true) ⌝ }
+    ensures { λ r. ⌜ Filled (now (mask .entry)) (now (mask .exit)) r 0 (widthOf (partOf (shapeOf v) p) (side .number)) (widthOf (partOf (shapeOf v) p) (side .number)) (heightOf (partOf (shapeOf v) p) (side .number)) (partShown beyond (shapeOf v) (now (cells .entry)) p (side .number) slice) ⌝ }
 {
     let across = p.across;
-    let n = on_axis(across, axes.second) as usize;
+    let n = on_axis(across, side.axes.second) as usize;
     let mut any: u16 = 0;
     let mut b = 0;
     while b < n {
-        let band = fill_band(mask, cells, v, p, side, axes, slice, b, beyond);
+        let band = fill_band(mask, cells, v, p, side, slice, b, beyond);
         any = any | band;
         b += 1;
     }

@@ -30,7 +30,7 @@ stale-stands m s t t′ sheet c (some b) w =
     record { n = w .n; n-is = w .n-is; few = w .few; tells = w .tells; shows = λ f. absurd (true≢false f); payable = λ f. absurd (true≢false f) }
 
 -- the program's list has the rates of all finishes up to 63
-listed-is : (f : ℕ) (rates : List ℕ) → length rates ≡ 64 → listed f rates ≡ (leb 1 f && leb f 63)
+pub listed-is : (f : ℕ) (rates : List ℕ) → length rates ≡ 64 → listed f rates ≡ (leb 1 f && leb f 63)
 unfolding listed
 listed-is f rates e = ap (λ (x : Bool). leb 1 f && x) (by-test (leb f 63) (λ h. ap (λ (x : Bool). x && ltb f (length rates)) h ∙ below h ∙ sym h) (λ h. rw h))
   where

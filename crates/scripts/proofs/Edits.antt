@@ -18,13 +18,22 @@ use Rattle.ledger.proofs.Shows.{Shows, shows-write-fill, shows-write-set, unles
 use Rattle.ledger.proofs.Tells.{Tells, tells-fill, tells-set}
 use Rattle.interpreter.specs.Run.{Edited, back, fillStep, fillWith, front, held, moved, setStep, setWith}
 use Rattle.interpreter.specs.declared.Machine.{Machine}
-use Rattle.scripts.specs.Page.{fillOn, onBook, setOn}
+use Rattle.scripts.specs.Page.{fillNumber, fillOn, onBook, setNumber, setOn}
 use Rattle.scripts.proofs.Fronts.{Full, back-front, full-back}
 use Rattle.scripts.proofs.Lending.{held-none}
 use Rattle.scripts.proofs.Payable.{Payable, payable-all}
 use Rattle.scripts.proofs.Standing.{Standing, Stands, given-back, held-is}
 
 -- ---- what the page writes is what the book does
+
+-- a stand and storage that fits leave 5 and 6
+pub set-table : (b : Book) (c : Cell) (v : ℕ) → setRefusal true true (b .shape) (b .count) (b .look c) c v ≡ setNumber c v b
+unfolding setRefusal setNumber first
+set-table b c v = refl
+
+pub fill-table : (b : Book) (c d : Cell) → fillRefusal true true (b .shape) (b .count) c d ≡ fillNumber c d b
+unfolding fillRefusal fillNumber first
+fill-table b c d = refl
 
 module _ (x : State) (b : Book) (k : Tells x b) where
   fits-book : fitsBook b (lengthsOf (storage x)) ≡ true
@@ -33,12 +42,15 @@ module _ (x : State) (b : Book) (k : Tells x b) where
 
   set-on : (c : Cell) (v : ℕ) → writeSet b (lengthsOf (storage x)) c v ≡ setOn c v b
   unfolding writeSet setOn
-  set-on c v = λ i. unless (setRefusal (k .opened i) (fits-book i) (b .shape) (b .count) (b .look c) c v) b (setBook b c v)
+  set-on c v =
+      (λ i. unless (setRefusal (k .opened i) (fits-book i) (b .shape) (b .count) (b .look c) c v) b (setBook b c v))
+      ∙ ap (λ n. unless n b (setBook b c v)) (set-table b c v)
 
   fill-on : (c d : Cell) (v : ℕ) → writeFill b (lengthsOf (storage x)) c d v ≡ fillOn c d v b
   unfolding writeFill fillOn
   fill-on c d v =
-      λ i. unless (fillRefusal (k .opened i) (fits-book i) (b .shape) (b .count) c d) b (setAll b (boxCells (b .shape) (boxOf (b .shape) c d)) v)
+      (λ i. unless (fillRefusal (k .opened i) (fits-book i) (b .shape) (b .count) c d) b (setAll b (boxCells (b .shape) (boxOf (b .shape) c d)) v))
+      ∙ ap (λ n. unless n b (setAll b (boxCells (b .shape) (boxOf (b .shape) c d)) v)) (fill-table b c d)
 
   set-tells : (c : Cell) (v : ℕ) → Tells (setCall x c v .state) (setOn c v b)
   set-tells c v = subst (Tells (setCall x c v .state)) (set-on c v) (tells-set x b c v k)
@@ -52,11 +64,11 @@ module _ (x : State) (b : Book) (k : Tells x b) where
   fill-shows : (c d : Cell) (v : ℕ) {t : Terms} {mark : ℕ} {sheet : List ℕ} → Shows t mark sheet b → Shows t mark sheet (fillOn c d v b)
   fill-shows c d v {t} {mark} {sheet} h = subst (Shows t mark sheet) (fill-on c d v) (shows-write-fill b (lengthsOf (storage x)) c v h d)
 
-set-shape : (b : Book) (c : Cell) (v : ℕ) → setOn c v b .shape ≡ b .shape
+pub set-shape : (b : Book) (c : Cell) (v : ℕ) → setOn c v b .shape ≡ b .shape
 unfolding setOn
 set-shape b c v = unless-so (λ (d : Book). d .shape ≡ b .shape) _ b _ refl (set-shape-kept b c v)
 
-fill-shape : (b : Book) (c d : Cell) (v : ℕ) → fillOn c d v b .shape ≡ b .shape
+pub fill-shape : (b : Book) (c d : Cell) (v : ℕ) → fillOn c d v b .shape ≡ b .shape
 unfolding fillOn
 fill-shape b c d v = unless-so (λ (e : Book). e .shape ≡ b .shape) _ b _ refl (all-shape-kept _ b v)
 
@@ -94,7 +106,7 @@ module _ (m : Machine) (s : Storage) (t : Terms) (sheet : List ℕ) (u : Full s)
         standing = record { n = w .n; n-is = e; few = w .few; tells = r .1; shows = λ q. h (w .shows q); payable = λ q. p (w .shows q) (w .payable q) };
       }
 
-  -- before the first opening 3 turns an edit back
+  -- before the first opening 3 refuses an edit
   unmoved : (o : Outcome ℕ) → o .state ≡ joined (m .volume) (front 0 s) → wellFormed (m .volume) ≡ false → Kept (moved 0 m s o) m t sheet none
   unfolding Standing
   unmoved o e f =

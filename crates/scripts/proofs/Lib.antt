@@ -1,16 +1,19 @@
 -- Laws and theorems of `scripts`.
+pub mod Answering
 pub mod Cards
 pub mod Edits
+pub mod Facewise
 pub mod Fronts
 pub mod Lending
+pub mod Numbers
 pub mod Openings
 pub mod Payable
 pub mod Prefix
 pub mod Pricing
-pub mod Printing
 pub mod Quoted
 pub mod Ranges
+pub mod Rated
 pub mod Refreshing
-pub mod Replies
-pub mod Scripted
+pub mod Sample
+pub mod Saying
 pub mod Standing

@@ -39,8 +39,8 @@ alike g a b h = go (first (shapeRules g)) refl
     go zero e = ap (λ (x : Bool). first (shapeRules g ++ (x ⇒ 4) ∷ [])) (h e)
     go (suc n) e = first-part (shapeRules g) ((a ⇒ 4) ∷ []) (λ z. omega arith) ∙ sym (first-part (shapeRules g) ((b ⇒ 4) ∷ []) (λ z. omega arith))
 
--- nothing turns it back: 1 and 2 let it pass, and it has at most 4 sections
-number-passed : (o : Cell) (size : Extent) → openNumber (openedShape o size) ≡ 0 → (first (shapeRules (openedShape o size)) ≡ 0) × (sections (openedShape o size) ≤ 4)
+-- nothing refuses it: 1 and 2 let it pass, and it has at most 4 sections
+pub number-passed : (o : Cell) (size : Extent) → openNumber (openedShape o size) ≡ 0 → (first (shapeRules (openedShape o size)) ≡ 0) × (sections (openedShape o size) ≤ 4)
 unfolding openNumber
 number-passed o size e =
     let p = passes _ _ _ e in
@@ -77,7 +77,7 @@ module _ (s : Storage) (u : Full s) (o : Cell) (size : Extent) where
       (λ h. ap not (fits-not e (ltb-true _ _ h)) ∙ sym h)
       (λ h. ap not (fits-few e (ltb-false _ _ h)) ∙ sym h)
 
-  number-is : openRefusal g (lengthsOf (front n s)) ≡ openNumber g
+  pub number-is : openRefusal g (lengthsOf (front n s)) ≡ openNumber g
   unfolding openRefusal openNumber
   number-is = alike g _ _ fits-is
 
@@ -89,9 +89,9 @@ module _ (m : Machine) (s : Storage) (t : Terms) (sheet : List ℕ) (u : Full s)
   under j k =
       editedOf (openedTurn m (O.opened j (front k s) (openedShape o size) .answer)) (back k (O.opened j (front k s) (openedShape o size) .storage) s)
 
-  turned-kept : (j k : ℕ) (b : Option Book) → Standing m s t sheet b → Kept (under (suc j) k) m t sheet b
+  refused-kept : (j k : ℕ) (b : Option Book) → Standing m s t sheet b → Kept (under (suc j) k) m t sheet b
   unfolding O.opened
-  turned-kept j k b w =
+  refused-kept j k b w =
       subst (λ (x : Storage). Kept (editedOf (turnOf m (R.Refused (suc j))) x) m t sheet b) (sym (back-front k s))
       (record { full = u; cut-is = refl; standing = w })
 
@@ -120,4 +120,4 @@ module _ (m : Machine) (s : Storage) (t : Terms) (sheet : List ℕ) (u : Full s)
       go zero e =
           let p = number-passed o size e in
           subst (λ k. Kept (under 0 k) m t sheet (some (openBook (openedShape o size)))) (sym (lent-all s u o size (p .0) (p .1))) (fresh-kept r e)
-      go (suc j) e = turned-kept j (n s u o size) b w
+      go (suc j) e = refused-kept j (n s u o size) b w

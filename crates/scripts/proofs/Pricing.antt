@@ -18,7 +18,7 @@ use Rattle.sheet.specs.declared.Row.{Row}
 use Rattle.ledger.specs.Book.{Book}
 use Rattle.ledger.specs.Calls.{Four}
 use Rattle.ledger.specs.Claim.{bookSums}
-use Rattle.ledger.proofs.Right.{right}
+use Rattle.ledger.proofs.Right.{face-once, right}
 use Rattle.ledger.proofs.Shows.{Shows}
 use Rattle.interpreter.specs.Run.{Priced, front, held, measureCall, priceReply, priced, pricedOf, refreshStep, refreshWith, termsIn, turnOf}
 use Rattle.interpreter.specs.declared.Machine.{Machine}
@@ -28,8 +28,10 @@ use Rattle.scripts.specs.Quotes.{Fair}
 use Rattle.scripts.proofs.Fronts.{Full, length-back}
 use Rattle.scripts.proofs.Lending.{held-none}
 use Rattle.scripts.proofs.Refreshing.{Anew, by-opened, by-refreshed}
-use Rattle.scripts.proofs.Replies.{refusal}
 use Rattle.scripts.proofs.Standing.{Standing, Stands, held-is}
+
+refusal : (n generation : ℕ) (row : Row) → R.Refused n ≡ R.Price generation row → ⊥
+refusal n generation row e = let z : _≡_ {A = ℕ} 0 1 = cc in absurd (omega arith)
 
 -- a refresh keeps the stand's book, and its price line is fair
 pub record Quoted (m : Machine) (s : Storage) (rates : List ℕ) (b : Option Book) (p : Priced) : Type 0 where
@@ -45,10 +47,10 @@ module _ (m : Machine) (s : Storage) (rates mask sheet : List ℕ) (u : Full s) 
   abbrev Line : Option Book → Priced → Type 0
   Line b p = Quoted m s rates b p
 
-  -- turned back, n sections lent
-  turned : (n j : ℕ) (b : Option Book) → Standing m s terms sheet b
+  -- refused, n sections lent
+  refused-line : (n j : ℕ) (b : Option Book) → Standing m s terms sheet b
       → Line b (priced n m sheet (C.outcomeOf (C.refused j) (m .marks) mask (take (n * 3) sheet)))
-  turned n j b w =
+  refused-line n j b w =
       subst (λ (x : List ℕ). Line b (pricedOf (turnOf m (R.Refused j)) mask x)) (sym (take-append-drop (n * 3) sheet))
       (record { rows = q; cut-is = refl; standing = w; fair = λ generation row e. absurd (refusal j generation row e) })
 
@@ -62,19 +64,24 @@ module _ (m : Machine) (s : Storage) (rates mask sheet : List ℕ) (u : Full s) 
       rows-are : length rows ≡ w .n * 3
       rows-are = a .shows .length-is ∙ ap (λ n. n * 3) (sym (w .n-is))
 
+      -- totals refuses nothing, and answers the sums
+      pub totalled : priceReply (m .volume .generation) (totalsCall (m .volume) rows) ≡ R.Price (b .count) (bookSums terms b)
+      totalled =
+          ap (priceReply (m .volume .generation)) (right terms (four r rows) b (w .tells) (a .shows) (a .mark-is) .totals-are)
+          ∙ ap (λ n. R.Price n (bookSums terms b)) (w .tells .count-is)
+
       fair-line : (generation : ℕ) (row : Row) → priceReply (m .volume .generation) (totalsCall (m .volume) rows) ≡ R.Price generation row
           → Fair (record { book = some b; rates = rates; cut = m .cut }) generation row
       fair-line generation row p =
-          let g = right terms (four r rows) b (w .tells) (a .shows) (a .mark-is) in
-          let line : R.Price (m .volume .generation) (bookSums terms b) ≡ R.Price generation row = sym (ap (priceReply (m .volume .generation)) (g .totals-are)) ∙ p in
-          let c : m .volume .generation ≡ generation = cc in
+          let line : R.Price (b .count) (bookSums terms b) ≡ R.Price generation row = sym totalled ∙ p in
+          let c : b .count ≡ generation = cc in
           let d : bookSums terms b ≡ row = cc in
           record {
             book = b;
             stand = refl;
-            count-is = sym c ∙ w .tells .count-is;
+            count-is = sym c;
             sums-are = sym d;
-            faces-once = g .faces-once;
+            faces-once = face-once terms b (w .tells .opened);
             cut-within = a .cut-in;
             rated = a .priced-all;
           }
@@ -105,7 +112,7 @@ module _ (m : Machine) (s : Storage) (rates mask sheet : List ℕ) (u : Full s) 
 
     back : (j : ℕ) → After (C.outcomeOf (C.refused (suc j)) (m .marks) mask (take (w .n * 3) sheet))
     unfolding Standing
-    back j = turned (w .n) (suc j) (some b) w
+    back j = refused-line (w .n) (suc j) (some b) w
 
     onward : (r : Marks) (l rows : List ℕ) → Anew terms b (r .sheet) rows → After (C.outcomeOf C.done r l rows)
     onward r l rows a = done r rows a l
@@ -122,8 +129,8 @@ module _ (m : Machine) (s : Storage) (rates mask sheet : List ℕ) (u : Full s) 
 
   -- ---- any stand
 
-  -- before the first opening 3 turns it back
-  ill : (stale : Bool) (v : Volume) (cells log last rows : List ℕ) → wellFormed v ≡ false
+  -- before the first opening 3 refuses it
+  pub ill : (stale : Bool) (v : Volume) (cells log last rows : List ℕ) → wellFormed v ≡ false
       → cond stale (C.openCall terms v cells (m .marks) mask rows) (C.refreshCall terms v cells log last (m .marks) mask rows)
       ≡ C.outcomeOf (C.refused 3) (m .marks) mask rows
   unfolding C.openCall C.refreshCall measureRefusal measuring first
@@ -135,5 +142,5 @@ module _ (m : Machine) (s : Storage) (rates mask sheet : List ℕ) (u : Full s) 
   quoted none f =
       subst (λ n. Line none (refreshWith n m s rates mask sheet)) (sym (ap (held m s) q ∙ held-none m s u f))
       (subst (λ (o : C.Outcome). Line none (priced 0 m sheet o)) (sym (ill (m .stale) (m .volume) (take 0 (s .cells)) (take 0 (s .log)) (take 0 (s .last)) (take 0 sheet) f))
-      (turned 0 3 none f))
+      (refused-line 0 3 none f))
   quoted (some b) w = subst (λ n. Line (some b) (refreshWith n m s rates mask sheet)) (sym (held-is w u (length sheet) q)) (measured b w)

@@ -15,7 +15,7 @@ use Rattle.interpreter.specs.Decode.{byteAt, callOf, cellAt, decodeOf, shortAt,
 use Rattle.interpreter.specs.declared.Call.{Call}
 use Rattle.interpreter.specs.declared.decode.Decoded.{Decoded}
 use Rattle.interpreter.specs.declared.decode.Decoded.the-variants as D
-use Rattle.scripts.specs.Bytes.{Bytes}
+use Rattle.scripts.specs.Said.{Bytes}
 use Rattle.scripts.specs.Quotes.{Typed}
 
 -- ---- bytes

@@ -2,7 +2,6 @@
 use mathlib.Core.Path.{_≡_, refl, sym, ap, _∙_}
 use mathlib.Core.Bool.{Bool, true, false, true≢false}
 use mathlib.Core.List.{List}
-use mathlib.Core.Option.{none}
 use Prim.Native.Nat.{ℕ, suc, _≤_, _<_}
 use Rattle.stand.specs.Edit.{look}
 use Rattle.stand.specs.Shape.{Shape, sections}
@@ -15,10 +14,9 @@ use Rattle.sheet.specs.Due.{todo}
 use Rattle.sheet.specs.Row.{priced}
 use Rattle.sheet.specs.declared.Marks.{Marks}
 use Rattle.ledger.specs.Book.{Book}
-use Rattle.ledger.specs.Calls.{Four, Op, Typed, accepted, given, isDone, leftBy, result, sheeted, step}
-use Rattle.ledger.specs.Claim.{LentAnew}
+use Rattle.ledger.specs.Calls.{Four, Op, accepted, given, isDone, leftBy, own, result, sheeted, step}
+use Rattle.ledger.specs.Claim.{Lent}
 use Rattle.ledger.proofs.Accepted.{by-measuring}
-use Rattle.ledger.proofs.Kept.{call}
 use Rattle.ledger.proofs.Measured.{Measures, mark-count}
 use Rattle.ledger.proofs.Opened.{shows-opened, shows-refreshed}
 use Rattle.ledger.proofs.Sheeted.{open-measures, refresh-measures}
@@ -36,7 +34,7 @@ pub record Anew (t : Terms) (b : Book) (mark : ℕ) (l : List ℕ) : Type 0 wher
 
 module _ (f : Four) (b : Book) (k : Tells (f .state) b) (t : Terms) (mask : List ℕ) where
   -- of the state it is priced, so it is of the book
-  priced-book : (i : ℕ) → priced (t .rates) (t .beyond) (b .shape) (b .look) i ≡ priced (t .rates) (t .beyond) (shape (f .state)) (look (shape (f .state)) (f .state .cells)) i
+  pub priced-book : (i : ℕ) → priced (t .rates) (t .beyond) (b .shape) (b .look) i ≡ priced (t .rates) (t .beyond) (shape (f .state)) (look (shape (f .state)) (f .state .cells)) i
   priced-book i =
       sym
       (ap (λ (g : Shape). priced (t .rates) (t .beyond) g (look (shape (f .state)) (f .state .cells)) i) (k .shape-is)
@@ -48,39 +46,39 @@ module _ (f : Four) (b : Book) (k : Tells (f .state) b) (t : Terms) (mask : List
       → (i : ℕ) → i < sections (b .shape) → priced (t .rates) (t .beyond) (b .shape) (b .look) i ≡ true
   priced-after {p} m kept i h = by-test (p i) (λ e. priced-book i ∙ m .priced-is i (rw (k .shape-is) h) e) (kept i h)
 
-  open-lent : LentAnew f (call none none (Op.openSheet t mask))
-  unfolding LentAnew Typed
-  open-lent = (tt, tt)
+  open-lent : Lent f (own (Op.openSheet t mask))
+  unfolding Lent
+  open-lent = tt
 
-  refresh-lent : LentAnew f (call none none (Op.refresh t mask))
-  unfolding LentAnew Typed
+  refresh-lent : Lent f (own (Op.refresh t mask))
+  unfolding Lent
   refresh-lent = (tt, tt)
 
-  abbrev openOut : C.Outcome
+  abbrev pub openOut : C.Outcome
   openOut = C.openCall t (f .state .volume) (f .state .cells) (f .marks) mask (f .sheet)
 
-  abbrev refreshOut : C.Outcome
+  abbrev pub refreshOut : C.Outcome
   refreshOut = C.refreshCall t (f .state .volume) (f .state .cells) (f .state .log) (f .state .last) (f .marks) mask (f .sheet)
 
   -- accepted
-  open-anew : isDone (openOut .verdict) ≡ true → Anew t b (openOut .marks .sheet) (openOut .sheet)
+  pub open-anew : isDone (openOut .verdict) ≡ true → Anew t b (openOut .marks .sheet) (openOut .sheet)
   unfolding step leftBy given result sheeted accepted
   open-anew e =
-      let m = open-measures f t mask none none open-lent e in
-      record { shows = shows-opened f b k t mask none none open-lent e; mark-is = mark-count k m; cut-in = m .cut-in; priced-all = priced-after m (λ i h n. absurd (true≢false n)) }
+      let m = open-measures f t mask (own (Op.openSheet t mask)) refl open-lent e in
+      record { shows = shows-opened f b k t mask (own (Op.openSheet t mask)) refl open-lent e; mark-is = mark-count k m; cut-in = m .cut-in; priced-all = priced-after m (λ i h n. absurd (true≢false n)) }
 
-  refresh-anew : Shows t (f .marks .sheet) (f .sheet) b → Payable t (f .marks .sheet) b → isDone (refreshOut .verdict) ≡ true → Anew t b (refreshOut .marks .sheet) (refreshOut .sheet)
+  pub refresh-anew : Shows t (f .marks .sheet) (f .sheet) b → Payable t (f .marks .sheet) b → isDone (refreshOut .verdict) ≡ true → Anew t b (refreshOut .marks .sheet) (refreshOut .sheet)
   unfolding step leftBy given result sheeted accepted
   refresh-anew h q e =
-      let m = refresh-measures f t mask none none refresh-lent e .0 in
+      let m = refresh-measures f t mask (own (Op.refresh t mask)) refl refresh-lent e .0 in
       record {
-        shows = shows-refreshed f b k t mask none none refresh-lent e h;
+        shows = shows-refreshed f b k t mask (own (Op.refresh t mask)) refl refresh-lent e h;
         mark-is = mark-count k m;
         cut-in = m .cut-in;
         priced-all = priced-after m (λ i li n. q i li (todo-none (f .state) b k (f .marks .sheet) (h .mark-le) i n));
       }
 
-  -- turned back it leaves marks and sheet; accepted it shows the book
+  -- refused it leaves marks and sheet; accepted it shows the book
   module _ (P : C.Outcome → Type 0)
       (back : (j : ℕ) → P (C.outcomeOf (C.refused (suc j)) (f .marks) mask (f .sheet)))
       (done : (r : Marks) (l rows : List ℕ) → Anew t b (r .sheet) rows → P (C.outcomeOf C.done r l rows)) where

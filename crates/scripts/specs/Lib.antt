@@ -1,4 +1,6 @@
 -- The definitions of `scripts`.
-pub mod Bytes
 pub mod Page
 pub mod Quotes
+pub mod Said
+pub mod Sample
+pub mod Says

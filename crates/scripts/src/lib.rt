@@ -1,1 +1,1 @@
-// Every price line of the trial program, held to document 01's book: definitions and theorems, and no code.
+// What the trial program prints, price lines and refusals, held to document 01's book: definitions and theorems, and no code.

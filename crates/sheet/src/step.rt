@@ -4,6 +4,8 @@ ghost use mathlib.Core.Bool.{true};
 ghost use Prim.Native.Nat.{_*_, _<_, _≤_};
 ghost use Rattle.stand.specs.Shape.{counted, maxChunks, product, sections, shapeOf, wellFormed};
 ghost use Rattle.sheet.specs.Turn.{lineOn, stepTo};
+use crate::sides::face_of;
+use mesh::axes::side_of;
 use stand::volume::Volume;
 use stand::volume::shape::Point;
 use stand::volume::shape::counts;
@@ -48,9 +50,10 @@ pub(crate) fn step_to(v: Volume, n: usize, c: usize, s: usize) -> usize
     if 6 <= s {
         return c;
     }
+    let side = side_of(face_of(s));
     let chunks = v.chunks;
-    let l = line_on(counts(chunks), c as u64, s / 2);
-    if s % 2 == 0 {
+    let l = line_on(counts(chunks), c as u64, side.axes.normal);
+    if side.up {
         if l.place + 1 < l.count {
             return c + l.hop as usize;
         }

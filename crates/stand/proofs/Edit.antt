@@ -3,7 +3,7 @@ use mathlib.Core.Logic.{_≢_}
 use mathlib.Core.Path.{_≡_, refl, sym, ap, _∙_}
 use mathlib.Core.Bool.{Bool, true, false, cond, and-false, false≢true}
 use mathlib.Core.List.{List, _++_}
-use Prim.Native.Nat.{ℕ, zero, suc, _+_, _*_, _≤_, _<_}
+use Prim.Native.Nat.{ℕ, zero, suc, _+_, _*_, _<_}
 use native.Mathlib.Omega.{arith}
 use borrow.Author.Tests.{eq-eqb, ne-eqb, eqb-true, eqb-false, not-false}
 use lib.Dec.{eqb}
@@ -78,9 +78,6 @@ module _ (s : State) (i v : ℕ) where
   put-keeps f e = by-put (λ p. f (p .state) ≡ f s) s i v (λ h. refl) (λ h. e)
 
   -- each change is one generation
-  pub put-count : put s i v .count ≤ 1
-  put-count = by-put (λ p. p .count ≤ 1) s i v (λ h. omega arith) (λ h. omega arith)
-
   pub put-generation : put s i v .state .volume .generation ≡ s .volume .generation + put s i v .count
   unfolding changed advanced
   put-generation =

@@ -1,13 +1,13 @@
 -- Laws of the changes since a mark: refusals, one turn of the search, and the walk by its steps.
 use mathlib.Core.Path.{_≡_, refl, sym, ap, _∙_}
-use mathlib.Core.Bool.{Bool, true, false, _&&_}
+use mathlib.Core.Bool.{true, false, _&&_}
 use mathlib.Core.Logic.{⊎-elim}
 use mathlib.Core.List.{List, [], _∷_, List·Memᴰ, List·Memᴰ·cases-cons, List·Memᴰ·head, List·Memᴰ·not-nil, List·Memᴰ·tail}
 use Prim.Native.Nat.{ℕ, zero, suc, _+_, _-_, _≤_, _<_}
 use native.Mathlib.Omega.{arith}
 use borrow.Author.Tests.{eq-eqb, eqb-false, eqb-true, le-leb, le-ltb, leb-true, lt-ltb, ltb-false, ltb-true, ne-eqb, not-false}
 use lib.Dec.{eqb, leb, ltb}
-use lib.ListN.{getD}
+use lib.ListN.{getD, length}
 use Rattle.stand.specs.Feed.{changedOf, chunk, end, feedRefusal, givenAt, logged, nextFrom, walk}
 use Rattle.stand.specs.Refusal.{first}
 use Rattle.stand.specs.Shape.{sections, shapeOf, wellFormed}
@@ -167,6 +167,18 @@ module _ (n : ℕ) (log last : List ℕ) where
       let left : k - (g - (j + 1)) ≡ suc k - (g - j) = omega (arith, w .after) in
       record { after = omega (arith, w .after); within = omega (arith, w .within); rest = walk-no j k q ∙ rw (← left) (w .rest) })
 
+  walk-none : (j : ℕ) → walk n log last j 0 ≡ []
+  unfolding walk
+  walk-none j = refl
+
+  -- no more sections than generations
+  pub walk-short : (k j : ℕ) → length (walk n log last j k) ≤ k
+  walk-short zero j = rw (walk-none j) (omega arith)
+  walk-short (suc k) j =
+      by-test (givenAt n log last j)
+      (λ q. let l : length (walk n log last j (suc k)) ≡ suc (length (walk n log last (j + 1) k)) = ap length (walk-yes j k q) in omega (arith, walk-short k (j + 1)))
+      (λ q. let l : length (walk n log last j (suc k)) ≡ length (walk n log last (j + 1) k) = ap length (walk-no j k q) in omega (arith, walk-short k (j + 1)))
+
   -- ---- which sections a walk gives
 
   -- section c is given by one of generations j + 1 to j + k
@@ -182,10 +194,6 @@ module _ (n : ℕ) (log last : List ℕ) where
 
   sooner : {j k c : ℕ} (w : Given j (suc k) c) → (w .at ≡ j → ⊥) → Given (j + 1) k c
   sooner w h = record { at = w .at; from = omega arith; upto = omega arith; given = w .given; is = w .is }
-
-  walk-none : (j : ℕ) → walk n log last j 0 ≡ []
-  unfolding walk
-  walk-none j = refl
 
   pub in-walk : (k j c : ℕ) → List·Memᴰ c (walk n log last j k) → Given j k c
   in-walk zero j c m = absurd (List·Memᴰ·not-nil (rw (walk-none j) at m))

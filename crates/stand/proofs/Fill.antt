@@ -25,7 +25,7 @@ use Rattle.stand.specs.declared.volume.Volume.{Volume}
 use Rattle.stand.specs.declared.volume.shape.Point.{Point}
 use Rattle.stand.specs.declared.volume.shape.Region.{Region}
 use Rattle.stand.proofs.Kept.{set-sound}
-use Rattle.stand.proofs.Edit.{by-edited, put-count, put-generation, set-fitting, set-formed, set-keeps, set-shape, storable, storage-turned}
+use Rattle.stand.proofs.Edit.{by-edited, put-generation, set-fitting, set-formed, set-keeps, set-shape, storable, storage-turned}
 use Rattle.stand.proofs.Levels.{clamp-law}
 use Rattle.stand.proofs.Shape.{chunks-some, formed-counts, formed-opens, goods, inside-from, sections-few, slot-at-lt, slot-from, stored}
 
@@ -234,20 +234,13 @@ each-keeps Q v [] h e q = q
 each-keeps Q v (c ∷ cs) h e q =
     each-keeps Q v cs (λ s d m. h s d (List·Memᴰ·tail m)) (andThen (e .count) (setDef (e .state) c v)) (h (e .state) c (List·Memᴰ·head refl) q)
 
--- each change is one generation, and a cell changes at most once
+-- each change is one generation
 pub each-generation : (cs : List Cell) (e : Edited) (v : ℕ) → setEach e cs v .state .volume .generation + e .count ≡ e .state .volume .generation + setEach e cs v .count
 unfolding setEach andThen setDef
 each-generation [] e v = refl
 each-generation (c ∷ cs) e v =
     let p = put-generation (e .state) (slot (shape (e .state)) c) v in
     omega (arith, each-generation cs (andThen (e .count) (setDef (e .state) c v)) v)
-
-pub each-count : (cs : List Cell) (e : Edited) (v : ℕ) → setEach e cs v .count ≤ e .count + length cs
-unfolding setEach andThen setDef
-each-count [] e v = omega arith
-each-count (c ∷ cs) e v =
-    let p = put-count (e .state) (slot (shape (e .state)) c) v in
-    omega (arith, each-count cs (andThen (e .count) (setDef (e .state) c v)) v)
 
 changed-lengths : (s : State) (i v : ℕ) → lengthsOf (storage (changed s i v)) ≡ lengthsOf (storage s)
 unfolding changed

@@ -16,3 +16,4 @@ pub mod Sound
 pub mod Storage
 pub mod Tests
 pub mod Solids
+pub mod Walking

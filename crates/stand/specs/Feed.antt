@@ -1,9 +1,9 @@
 -- Changed since a mark: document 01, 'The stand' and refusals 3, 4, 8 and 9.
 use Prim.Native.Nat.{ℕ, zero, suc, _+_, _-_, _%_}
-use mathlib.Core.Bool.{Bool, cond, _&&_, not}
+use mathlib.Core.Bool.{Bool, true, false, cond, _&&_, not}
 use mathlib.Core.List.{List, [], _∷_}
 use lib.Dec.{eqb, leb, ltb}
-use lib.ListN.{length, getD}
+use lib.ListN.{length, getD, set}
 use Rattle.stand.specs.Refusal.{Answer, _⇒_, answer, first, gives, refused}
 use Rattle.stand.specs.Shape.{sections, shapeOf, wellFormed}
 use Rattle.stand.specs.declared.volume.Volume.{Volume}
@@ -61,3 +61,40 @@ abbrev pub chunkStep : K.ChunkStep → Answer Next
 chunkStep (K.the-variants.Chunk c g) = gives (chunk c g)
 chunkStep K.the-variants.End = gives end
 chunkStep (K.the-variants.Refused n) = refused n
+
+-- where a walk that stood at next stands after a step: at the generation that gave a section, else where it stood
+abbrev pub nextAfter : Answer Next → ℕ → ℕ
+nextAfter (gives (chunk c g)) next = g
+nextAfter (gives end) next = next
+nextAfter (refused n) next = next
+
+-- ---- a whole walk, its sections written to a list
+
+-- the sections of a walk from the mark, in order
+abbrev pub sectionsSince : Volume → List ℕ → List ℕ → ℕ → List ℕ
+sectionsSince v log last mark = walk (sections (shapeOf v)) log last mark (v .generation - mark)
+
+-- sections written from place i on, as far as the list has room
+unfoldable pub writtenFrom : ℕ → List ℕ → List ℕ → List ℕ
+writtenFrom i [] out = out
+writtenFrom i (c ∷ cs) out = writtenFrom (i + 1) cs (set out i c)
+
+-- how many they are, and the list after it, under a refusal's number, 0 for none; a refusal writes nothing
+unfoldable pub walked : ℕ → List ℕ → List ℕ → Answer ℕ × List ℕ
+walked zero cs out = (gives (length cs), writtenFrom 0 cs out)
+walked (suc n) cs out = (refused (suc n), out)
+
+unfoldable pub walkCall : Volume → List ℕ → List ℕ → ℕ → List ℕ → Answer ℕ × List ℕ
+walkCall v log last mark out =
+    walked (feedRefusal v (length log) (length last) mark) (sectionsSince v log last mark) out
+
+-- for the code: whether a step gives a section, and a list with that section at place i
+abbrev pub gave : Answer Next → Bool
+gave (gives (chunk c g)) = true
+gave (gives end) = false
+gave (refused n) = false
+
+abbrev pub withGiven : Answer Next → ℕ → List ℕ → List ℕ
+withGiven (gives (chunk c g)) i out = set out i c
+withGiven (gives end) i out = out
+withGiven (refused n) i out = out

@@ -2,7 +2,7 @@
 ghost use mathlib.Core.Path.{_≡_};
 ghost use Prim.Native.Nat.{_≤_, max};
 ghost use Rattle.interpreter.specs.Decode.{lengthOf};
-ghost use Rattle.trial.specs.Turn.{isBroken};
+ghost use Rattle.interpreter.specs.Script.{isBroken};
 ghost use lib.ListN.{length};
 use interpreter::Machine;
 use interpreter::Reply;

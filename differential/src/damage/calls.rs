@@ -46,9 +46,12 @@ impl Hurt {
         self.kept("fill", equal && self.s == stored)
     }
 
-    /// Opening with lists of any length: 1, 2, 4.
+    /// Opening with lists of any length: 1, 2, 4; and the header alone: 1, 2.
     pub fn open(&mut self) -> Same {
         let (origin, size) = (self.v.origin, self.v.size);
+        let (got, wanted) = (ours::header(origin, size), model::header(origin, size));
+        self.hold("header", got.code, wanted.code, got == wanted)?;
+        self.kept("header", got == wanted)?;
         let mut code = model::open_code(origin, size);
         if code == 0 {
             code = model::storage_code(model::opened(origin, size), &self.s);
@@ -110,6 +113,11 @@ impl Hurt {
         let seven = model::section_code(v, chunk);
         let got = ours::chunk_origin(v, chunk);
         self.hold("chunk_origin", got.code, seven, got.cell == Cell::default())?;
+        let want = match seven {
+            0 => model::want(v, Some(chunk)) as u64,
+            _ => 0,
+        };
+        self.number("chunk_slots", ours::chunk_slots(v, chunk), seven, want)?;
         self.list_reads(c, chunk, seven)
     }
 

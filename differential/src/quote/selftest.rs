@@ -1,8 +1,9 @@
 //! Each fault must be found, and its text shrunk to a few lines.
 
-use super::fault::{self, Fault};
+use super::fault;
 use super::line::Line;
 use super::run::{Sides, program};
+use crate::selftest::Tested;
 
 /// Texts in which a fault must be found.
 const TEXTS: u64 = 5_000;
@@ -13,18 +14,13 @@ const MOST: usize = 8;
 /// Bytes of a line that are printed.
 const SHOWN: usize = 60;
 
-pub fn self_test(seed: u64) -> bool {
-    let Some(program) = program() else {
-        return false;
-    };
-    let look = |fault: Fault| {
-        let program = program.clone();
-        let fault = Some(fault);
-        look_for(Sides { program, fault }, seed)
-    };
-    fault::ALL.into_iter().fold(true, |passed, fault| {
-        let found = look(fault);
-        passed && found
+pub fn self_test(seed: u64) -> Tested {
+    let program = program();
+    Tested::of(&fault::ALL, |fault| {
+        program.clone().is_some_and(|program| {
+            let fault = Some(fault);
+            look_for(Sides { program, fault }, seed)
+        })
     })
 }
 

@@ -1,7 +1,8 @@
 //! Each fault must be found, and its script shrunk to a few calls.
 
-use super::fault::{self, Fault};
+use super::fault;
 use super::run::{Sides, program, text};
+use crate::selftest::Tested;
 
 /// Scripts in which a fault must be found.
 const SCRIPTS: u64 = 5_000;
@@ -9,18 +10,13 @@ const SCRIPTS: u64 = 5_000;
 /// Most calls of a shrunk script: a card, an opening, and three refreshes with edits before each.
 const MOST: usize = 10;
 
-pub fn self_test(seed: u64) -> bool {
-    let Some(program) = program() else {
-        return false;
-    };
-    let look = |fault: Fault| {
-        let program = program.clone();
-        let fault = Some(fault);
-        look_for(Sides { program, fault }, seed)
-    };
-    fault::ALL.into_iter().fold(true, |passed, fault| {
-        let found = look(fault);
-        passed && found
+pub fn self_test(seed: u64) -> Tested {
+    let program = program();
+    Tested::of(&fault::ALL, |fault| {
+        program.clone().is_some_and(|program| {
+            let fault = Some(fault);
+            look_for(Sides { program, fault }, seed)
+        })
     })
 }
 

@@ -3,7 +3,7 @@ ghost use mathlib.Core.Path.{_≡_};
 ghost use Prim.Native.Nat.{_-_, _≤_};
 ghost use lib.ListN.{length};
 ghost use Rattle.stand.specs.Answer.{numberAnswer};
-ghost use Rattle.stand.specs.Feed.{chunkStep, changedSince, changedStep, feedRefusal, nextFrom};
+ghost use Rattle.stand.specs.Feed.{chunkStep, changedSince, changedStep, feedRefusal, gave, nextFrom, nextAfter, withGiven};
 ghost use Rattle.stand.specs.Refusal.{gives};
 use crate::volume::Volume;
 use crate::volume::answer::NumberAnswer;
@@ -18,7 +18,7 @@ pub enum ChunkStep {
 }
 
 // The refusal of a walk from a mark over lists of these lengths, 0 for none.
-fn feed_code(v: Volume, log: usize, last: usize, mark: u64) -> u32
+pub(crate) fn feed_code(v: Volume, log: usize, last: usize, mark: u64) -> u32
     ensures { λ r. ⌜ r ≡ feedRefusal v log last mark ⌝ }
 {
     if !is_well_formed(v) {
@@ -64,6 +64,33 @@ fn next_changed(log: &[u32], last: &[u64], next: u64, generation: u64) -> ChunkS
         }
     }
     ChunkStep::End
+}
+
+// The generation at which a walk that stood at `next` stands after a step.
+pub(crate) fn next_after(step: ChunkStep, next: u64) -> u64
+    ensures { λ r. ⌜ r ≡ nextAfter (chunkStep step) next ⌝ }
+{
+    match step {
+        ChunkStep::Chunk(_, generation) => generation,
+        ChunkStep::End => next,
+        ChunkStep::Refused(_) => next,
+    }
+}
+
+// Whether a step gives a chunk; it is put at a place of a list, where the list has room.
+pub(crate) fn put_given(step: ChunkStep, at: usize, out: &mut [u64]) -> bool
+    ensures { λ r. ⌜ (r ≡ gave (chunkStep step)) × (now (out .exit) ≡ withGiven (chunkStep step) at (now (out .entry))) ⌝ }
+{
+    let chunk = match step {
+        ChunkStep::Chunk(chunk, _) => chunk,
+        ChunkStep::End => return false,
+        ChunkStep::Refused(_) => return false,
+    };
+    if out.len() <= at {
+        return true;
+    }
+    out[at] = chunk;
+    true
 }
 
 impl Volume {

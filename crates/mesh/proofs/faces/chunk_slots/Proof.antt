@@ -1,5 +1,5 @@
 -- `mesh::faces::chunk_slots` meets its contract.
-use mathlib.Core.Path.{_≡_, _∙_, ap, sym}
+use mathlib.Core.Path.{_∙_, ap, sym}
 use native.Mathlib.Omega.{arith}
 use borrow.Author.Needs.{needs}
 use Rattle.stand.specs.Answer.{numberAnswer}

@@ -1,30 +1,28 @@
 -- `mesh::part::fill_slice` meets its contract.
 use borrow.Author.Needs.{needs}
 use native.Mathlib.Omega.{arith}
-use mathlib.Core.Path.{ap, subst}
+use mathlib.Core.Path.{subst}
 use Rattle.stand.specs.Shape.{shapeOf}
-use Rattle.stand.specs.Sides.{axesAt}
-use Rattle.stand.specs.declared.Axes.{Axes}
 use Rattle.mesh.specs.Step.{Follows}
 use Rattle.mesh.specs.declared.part.Next.{Next}
 use Rattle.mesh.specs.declared.part.Next.the-variants as N
 use Rattle.mesh.proofs.Step.{few}
 use Rattle.mesh.proofs.Shown.{Steps, filled-next, filled-open, filled-shut, plane-in, plane-to, slice-lt, start-lt, steps-are}
+use Rattle.mesh.proofs.Tables.{axes-read}
 use Rattle.mesh.proofs.part.fill_slice.Statement.{statement}
 use Rattle.mesh.proofs.part.fill_slice.Tie as tie
 
 abbrev follows : tie.After-next-of → Next → Type 0
-follows c = let s = c .before .before .before in Follows (shapeOf (s .args .v)) (s .args .beyond) (s .args .chunk) (s .args .side) (s .args .slice)
+follows c = let s = c .before .before .before in Follows (shapeOf (s .args .v)) (s .args .beyond) (s .args .chunk) (s .args .side .number) (s .args .slice)
 
 next : (c : tie.After-next) → follows (c .before .before .before .before .before .before) (N.At (c .next .given .0 .0) (c .next .given .0 .1 .0))
 next c = subst (follows (c .before .before .before .before .before .before)) (c .next .given .1) (c .before .before .before .before .before .before .next-of .ensures)
 
-steps : (c : tie.After-grid-of) → let s = c .before .before .before .before .before in let r = c .grid-of .result in Steps (shapeOf (s .args .v)) (s .args .chunk) (s .args .side) (r .w) (r .h) (r .normal) (r .first) (r .second)
-steps c = let s = c .before .before .before .before .before in steps-are (s .pre .0 .from .section) (s .pre .1) (c .grid-of .ensures)
+steps : (c : tie.After-grid-of) → let s = c .before .before .before .before .before in let r = c .grid-of .result in Steps (shapeOf (s .args .v)) (s .args .chunk) (s .args .side .number) (r .w) (r .h) (r .normal) (r .first) (r .second)
+steps c = let s = c .before .before .before .before .before in steps-are (s .pre .0 .from .section) (axes-read (s .pre .1)) (c .grid-of .ensures)
 
 next-of-requires : tie.Need-next-of-requires
-unfolding axesAt
-next-of-requires c κs = let s = c .before .before in (s .pre .0 .from, ap (λ (x : Axes). x .normal) (s .pre .1))
+next-of-requires c κs = let s = c .before .before in (s .pre .0 .from, s .pre .1)
 
 grid-of-requires : tie.Need-grid-of-requires
 grid-of-requires c κs = search needs

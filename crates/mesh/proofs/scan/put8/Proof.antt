@@ -2,123 +2,100 @@
 use lib.ListN.{length-set}
 use mir.Syntax.{w32}
 use mir.ValLaws.{toZ-ofZ}
-use native.Mathlib.Numerals.{towards-suc}
 use native.Mathlib.Omega.{arith}
-use borrow.Author.Needs.{needs}
+use mathlib.Core.Path.{_≡_, _∙_}
+use lib.IntN.{ℤ}
+use mir.Val.{SFits, ofZ, toZ}
+use Rattle.stand.proofs.Sides.{Apart}
+use Rattle.mesh.specs.Axes.{eight}
+use Rattle.mesh.proofs.Tables.{axes-low, stored-eight}
 use Rattle.mesh.proofs.scan.put8.Statement.{statement}
 use Rattle.mesh.proofs.scan.put8.Tie as tie
 
-mul-x : tie.Need-mul-x
-mul-x c = search needs
+low : (c : tie.Start) → let x = c .args .axes in Apart (x .normal) (x .first) (x .second)
+low c = axes-low (c .pre .1)
 
-slice-set-from-x : tie.Need-slice-set-from-x
-slice-set-from-x c = search needs
+mul-a : tie.Need-mul-a
+mul-a c = omega (arith, low c .normal)
 
-add-y : tie.Need-add-y
-add-y c = search needs
+slice-set-from-a : tie.Need-slice-set-from-a
+slice-set-from-a c = omega (arith, c .pre .0, low c .normal)
 
-mul-y : tie.Need-mul-y
-mul-y c = search needs
+mul-b : tie.Need-mul-b
+mul-b c = omega (arith, low c .order, low c .last)
 
-slice-set-from-y : tie.Need-slice-set-from-y
-slice-set-from-y c = simp length-set (omega arith)
+slice-set-from-b : tie.Need-slice-set-from-b
+slice-set-from-b c = simp length-set (omega (arith, c .pre .0, low c .order, low c .last))
 
-add-z : tie.Need-add-z
-add-z c = search needs
+mul-c : tie.Need-mul-c
+mul-c c = omega (arith, low c .last)
 
-mul-z : tie.Need-mul-z
-mul-z c = search needs
-
-slice-set-from-z : tie.Need-slice-set-from-z
-slice-set-from-z c = simp length-set (omega arith)
-
-add-side : tie.Need-add-side
-add-side c = search needs
-
-mul-side : tie.Need-mul-side
-mul-side c = search needs
+slice-set-from-c : tie.Need-slice-set-from-c
+slice-set-from-c c = simp length-set (omega (arith, c .pre .0, low c .last))
 
 slice-set-from-side : tie.Need-slice-set-from-side
-slice-set-from-side c = simp length-set (omega arith)
+slice-set-from-side c = simp length-set (omega (arith, c .pre .0))
 
-add-voxel : tie.Need-add-voxel
-add-voxel c = search needs
+slice-set-from-finish : tie.Need-slice-set-from-finish
+slice-set-from-finish c = simp length-set (omega (arith, c .pre .0))
 
-mul-voxel : tie.Need-mul-voxel
-mul-voxel c = search needs
+add-panel : tie.Need-add-panel
+add-panel c = omega (arith, low c .normal)
 
-slice-set-from-voxel : tie.Need-slice-set-from-voxel
-slice-set-from-voxel c = simp length-set (omega arith)
+mul-panel : tie.Need-mul-panel
+mul-panel c = omega (arith, low c .normal)
 
-add-ex : tie.Need-add-ex
-add-ex c = search needs
+slice-set-of-panel : tie.Need-slice-set-of-panel
+slice-set-of-panel c = simp length-set (omega (arith, c .pre .0, low c .normal))
 
-mul-ex : tie.Need-mul-ex
-mul-ex c = search needs
+add-n : tie.Need-add-n
+add-n c = omega (arith, low c .order, low c .last)
 
-slice-set-from-ex : tie.Need-slice-set-from-ex
-slice-set-from-ex c = simp length-set (omega arith)
+mul-n : tie.Need-mul-n
+mul-n c = omega (arith, low c .order, low c .last)
 
-add-ey : tie.Need-add-ey
-add-ey c = search needs
+slice-set-from-n : tie.Need-slice-set-from-n
+slice-set-from-n c = simp length-set (omega (arith, c .pre .0, low c .order, low c .last))
 
-mul-ey : tie.Need-mul-ey
-mul-ey c = search needs
+add-m : tie.Need-add-m
+add-m c = omega (arith, low c .last)
 
-slice-set-from-ey : tie.Need-slice-set-from-ey
-slice-set-from-ey c = simp length-set (omega arith)
+mul-m : tie.Need-mul-m
+mul-m c = omega (arith, low c .last)
 
-add-ez : tie.Need-add-ez
-add-ez c = search needs
-
-mul-ez : tie.Need-mul-ez
-mul-ez c = search needs
-
-slice-set-from-ez : tie.Need-slice-set-from-ez
-slice-set-from-ez c = simp length-set (omega arith)
+slice-set-from-m : tie.Need-slice-set-from-m
+slice-set-from-m c = simp length-set (omega (arith, c .pre .0, low c .last))
 
 same-length : tie.Need-same-length
 same-length c = simp length-set
 
 returns : tie.Need-returns
-returns c = simp (
-  towards-suc,
-  toZ-ofZ w32 (c .args .x) (c .fits .x),
-  toZ-ofZ w32 (c .args .y) (c .fits .y),
-  toZ-ofZ w32 (c .args .z) (c .fits .z),
-  toZ-ofZ w32 (c .args .side) (c .fits .side),
-  toZ-ofZ w32 (c .args .voxel) (c .fits .voxel),
-  toZ-ofZ w32 (c .args .ex) (c .fits .ex),
-  toZ-ofZ w32 (c .args .ey) (c .fits .ey),
-  toZ-ofZ w32 (c .args .ez) (c .fits .ez),
-)
+returns c =
+    let a = c .args in
+    let is : (z : ℤ) → SFits w32 z → toZ w32 (ofZ w32 z) ≡ z = λ z f. toZ-ofZ w32 z f in
+    stored-eight _ _ _ _ _ _ _ (c .pre .1) (a .panel .now) (c .pre .0)
+    ∙ (λ i. eight (a .axes) (is (a .a) (c .fits .a) i) (is (a .b) (c .fits .b) i) (is (a .c) (c .fits .c) i) (is (a .side) (c .fits .side) i) (is (a .finish) (c .fits .finish) i) (is (a .n) (c .fits .n) i) (is (a .m) (c .fits .m) i))
 
 pub put8-spec : {M : Type 1} → statement M
 put8-spec =
     tie.close
     (tie.spec
-    mul-x
-    slice-set-from-x
-    add-y
-    mul-y
-    slice-set-from-y
-    add-z
-    mul-z
-    slice-set-from-z
-    add-side
-    mul-side
+    mul-a
+    slice-set-from-a
+    mul-b
+    slice-set-from-b
+    mul-c
+    slice-set-from-c
     slice-set-from-side
-    add-voxel
-    mul-voxel
-    slice-set-from-voxel
-    add-ex
-    mul-ex
-    slice-set-from-ex
-    add-ey
-    mul-ey
-    slice-set-from-ey
-    add-ez
-    mul-ez
-    slice-set-from-ez
+    slice-set-from-finish
+    add-panel
+    mul-panel
+    slice-set-of-panel
+    add-n
+    mul-n
+    slice-set-from-n
+    add-m
+    mul-m
+    slice-set-from-m
     same-length
     returns)

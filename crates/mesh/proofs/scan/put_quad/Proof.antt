@@ -9,7 +9,7 @@ use mir.Syntax.{w32}
 use mir.Val.{toZ, ofZ}
 use Rattle.arith.proofs.Signed.{back}
 use Rattle.mesh.specs.Frame.{rectOf}
-use Rattle.mesh.proofs.Frame.{Values, numbers-x, numbers-y, numbers-z, put-full, put-room}
+use Rattle.mesh.proofs.Frame.{Values, numbers, panel-part, put-full, put-room}
 use borrow.Author.Needs.{needs}
 use Rattle.mesh.proofs.scan.put_quad.Statement.{statement}
 use Rattle.mesh.proofs.scan.put_quad.Tie as tie
@@ -47,6 +47,7 @@ values : (c : tie.After-int4)
 values c =
     record {
       side-in = start c .pre .lies .side;
+      axes = start c .pre .lies .axes;
       normal = back _ (along-normal c .from-level .ok) ∙ along-normal c .from-level .ensures;
       first = back _ (along-first c .from-level2 .ok) ∙ along-first c .from-level2 .ensures;
       second = back _ (along-second c .from-level3 .ok) ∙ along-second c .from-level3 .ensures;
@@ -92,11 +93,30 @@ int-requires-3 c κs = search needs
 int-requires-4 : tie.Need-int-requires-4
 int-requires-4 c κs = search needs
 
-mul-put8 : tie.Need-mul-put8
-mul-put8 c = search needs
+mul-at : tie.Need-mul-at
+mul-at c = search needs
+
+add-end : tie.Need-add-end
+add-end c = search needs
+
+mul-panel : tie.Need-mul-panel
+mul-panel c = search needs
+
+sub-panel : tie.Need-sub-panel
+sub-panel c = search needs
+
+part-panel-start : tie.Need-part-panel-start
+part-panel-start c = search needs
+
+part-panel-end : tie.Need-part-panel-end
+part-panel-end c = search needs
 
 put8-requires : tie.Need-put8-requires
-put8-requires c κs = search needs
+put8-requires c κs =
+    let b = c .before .before in
+    let l = start b .pre .lies in
+    let s = start b .args in
+    (panel-part (now (s .out)) (s .k) (room b), record { side = s .f .side; known = l .side; axes = l .axes })
 
 same-length : tie.Need-same-length
 same-length c = search needs
@@ -104,35 +124,7 @@ same-length c = search needs
 returns-2 : tie.Need-returns-2
 returns-2 c =
     let b = c .before .before .before .before in
-    c .before .put8 .ensures ∙ put-room _ _ _ (room b) (numbers-x (values b) (c .before .before .before .if2 .taken))
-
-mul-put8-2 : tie.Need-mul-put8-2
-mul-put8-2 c = search needs
-
-put8-requires-2 : tie.Need-put8-requires-2
-put8-requires-2 c κs = search needs
-
-same-length-2 : tie.Need-same-length-2
-same-length-2 c = search needs
-
-returns-3 : tie.Need-returns-3
-returns-3 c =
-    let b = c .before .before .before .before .before in
-    c .before .put82 .ensures ∙ put-room _ _ _ (room b) (numbers-y (values b) (c .before .before .before .before .if2 .left) (c .before .before .before .if3 .taken))
-
-mul-put8-3 : tie.Need-mul-put8-3
-mul-put8-3 c = search needs
-
-put8-requires-3 : tie.Need-put8-requires-3
-put8-requires-3 c κs = search needs
-
-same-length-3 : tie.Need-same-length-3
-same-length-3 c = search needs
-
-returns-4 : tie.Need-returns-4
-returns-4 c =
-    let b = c .before .before .before .before .before in
-    c .before .put83 .ensures ∙ put-room _ _ _ (room b) (numbers-z (values b) (c .before .before .before .if3 .left))
+    put-room _ _ _ (room b) (c .before .put8 .ensures ∙ numbers (values b))
 
 pub put-quad-spec : {M : Type 1} → statement M
 put-quad-spec =
@@ -149,15 +141,12 @@ put-quad-spec =
     int-requires-2
     int-requires-3
     int-requires-4
-    mul-put8
+    mul-at
+    add-end
+    mul-panel
+    sub-panel
+    part-panel-start
+    part-panel-end
     put8-requires
     same-length
-    returns-2
-    mul-put8-2
-    put8-requires-2
-    same-length-2
-    returns-3
-    mul-put8-3
-    put8-requires-3
-    same-length-3
-    returns-4)
+    returns-2)

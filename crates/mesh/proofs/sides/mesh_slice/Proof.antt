@@ -20,7 +20,7 @@ returns c =
     let a = s .args in
     let g = shapeOf (a .v) in
     let i = s .pre .1 in
-    slice-none (a .beyond) g (look g _) (partOf g (a .p)) (a .side) (a .slice) (i .zero) (c .before .before .before .fill-part .ensures) (i .side) (c .if1 .taken)
+    slice-none (a .beyond) g (look g _) (partOf g (a .p)) (a .side .number) (a .slice) (i .zero) (c .before .before .before .fill-part .ensures) (i .side) (c .if1 .taken)
 
 frame-in-requires : tie.Need-frame-in-requires
 frame-in-requires c κs = search needs

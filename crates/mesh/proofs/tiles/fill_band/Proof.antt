@@ -8,27 +8,28 @@ use Rattle.stand.specs.Sides.{firstAt}
 use Rattle.mesh.specs.Part.{onAxis, widthOf}
 use Rattle.mesh.specs.Tiles.{partOf}
 use Rattle.mesh.proofs.Laid.{filled-none}
+use Rattle.mesh.proofs.Tables.{axes-read}
 use Rattle.mesh.proofs.Tiling.{BandTo, band-more, band-room, band-small, band-tile, chunk-lt, first-is, slice-in, wide-all, wide-some, width-is}
 use borrow.Author.Needs.{needs}
 use Rattle.mesh.proofs.tiles.fill_band.Statement.{statement}
 use Rattle.mesh.proofs.tiles.fill_band.Tie as tie
 
 abbrev Inv-loop : tie.InvT-loop
-Inv-loop mask₀ cells v p side axes slice b beyond w n to k any₀ a₀ mask any a = (a ≤ n) × BandTo (shapeOf v) p side beyond cells slice b a mask₀ mask any
+Inv-loop mask₀ cells v p side slice b beyond w n to k any₀ a₀ mask any a = (a ≤ n) × BandTo (shapeOf v) p (side .number) beyond cells slice b a mask₀ mask any
 
 abbrev μ-loop : tie.MeasureT-loop
-μ-loop mask₀ cells v p side axes slice b beyond w n to k any₀ a₀ mask any a = n - a
+μ-loop mask₀ cells v p side slice b beyond w n to k any₀ a₀ mask any a = n - a
 
 abbrev start : tie.After-on-axis2 Inv-loop μ-loop → tie.Start Inv-loop μ-loop
 start c = c .before .before .before .before .before .before
 
-wide : (c : tie.After-on-axis2 Inv-loop μ-loop) → c .before .on-axis .result ≡ widthOf (partOf (shapeOf (start c .args .v)) (start c .args .p)) (start c .args .side)
-wide c = width-is (start c .args .side) (start c .pre .1) (shapeOf (start c .args .v)) (start c .pre .0 .part) (c .before .on-axis .ensures)
+wide : (c : tie.After-on-axis2 Inv-loop μ-loop) → c .before .on-axis .result ≡ widthOf (partOf (shapeOf (start c .args .v)) (start c .args .p)) (start c .args .side .number)
+wide c = width-is (start c .args .side .number) (axes-read (start c .pre .1)) (shapeOf (start c .args .v)) (start c .pre .0 .part) (c .before .on-axis .ensures)
 
-across : (c : tie.After-on-axis2 Inv-loop μ-loop) → c .on-axis2 .result ≡ onAxis (firstAt (start c .args .side)) (start c .args .p .across)
-across c = first-is (start c .args .side) (start c .pre .1) (start c .args .p .across) (c .on-axis2 .ensures)
+across : (c : tie.After-on-axis2 Inv-loop μ-loop) → c .on-axis2 .result ≡ onAxis (firstAt (start c .args .side .number)) (start c .args .p .across)
+across c = first-is (start c .args .side .number) (axes-read (start c .pre .1)) (start c .args .p .across) (c .on-axis2 .ensures)
 
-left : (c : tie.In-loop Inv-loop μ-loop) → let t = c .before .before in c .before .loop .a < onAxis (firstAt (start t .args .side)) (start t .args .p .across)
+left : (c : tie.In-loop Inv-loop μ-loop) → let t = c .before .before in c .before .loop .a < onAxis (firstAt (start t .args .side .number)) (start t .args .p .across)
 left c = omega (arith, c .loop-test .taken, across (c .before .before))
 
 -- where the next section is laid
@@ -37,7 +38,7 @@ room : (c : tie.In-loop Inv-loop μ-loop) → let t = c .before .before in
 room c =
     let t = c .before .before in
     let s = start t in
-    omega (arith, wide t, wide-some (shapeOf (s .args .v)) (s .args .p) (s .args .side) (s .pre .0 .part) (left c), band-room _ _ _ (s .pre .0) (t .before .on-axis .result) (wide t))
+    omega (arith, wide t, wide-some (shapeOf (s .args .v)) (s .args .p) (s .args .side .number) (s .pre .0 .part) (left c), band-room _ _ _ (s .pre .0) (t .before .on-axis .result) (wide t))
 
 on-axis-requires : tie.Need-on-axis-requires Inv-loop μ-loop
 on-axis-requires c κs = search needs
@@ -55,7 +56,7 @@ loop-holds : tie.Need-loop-holds Inv-loop μ-loop
 loop-holds c = (omega arith, filled-none (λ u v a b. omega arith))
 
 tile-at-requires : tie.Need-tile-at-requires Inv-loop μ-loop
-tile-at-requires c κs = band-tile _ _ _ (start (c .before .before) .pre .0) (c .before .loop .a) (left c)
+tile-at-requires c κs = let s = start (c .before .before) in (band-tile _ _ _ (s .pre .0) (c .before .loop .a) (left c), s .pre .1)
 
 section-of-requires : tie.Need-section-of-requires Inv-loop μ-loop
 section-of-requires c κs =
@@ -101,7 +102,7 @@ returns : tie.Need-returns Inv-loop μ-loop
 returns c =
     let t = c .before .before in
     let s = start t in
-    rw (wide-all (shapeOf (s .args .v)) (s .args .p) (s .args .side) (c .before .loop .a) (omega (arith, across t))) at (c .before .loop .inv .1)
+    rw (wide-all (shapeOf (s .args .v)) (s .args .p) (s .args .side .number) (c .before .loop .a) (omega (arith, across t))) at (c .before .loop .inv .1)
 
 pub fill-band-spec : {M : Type 1} → statement M
 fill-band-spec =

@@ -6,24 +6,25 @@ use Rattle.stand.specs.Shape.{shapeOf}
 use Rattle.stand.specs.Sides.{secondAt}
 use Rattle.mesh.specs.Part.{onAxis}
 use Rattle.mesh.proofs.Laid.{filled-none}
+use Rattle.mesh.proofs.Tables.{axes-read}
 use Rattle.mesh.proofs.Tiling.{PartTo, band-in, high-all, part-more, second-is}
 use borrow.Author.Needs.{needs}
 use Rattle.mesh.proofs.tiles.fill_part.Statement.{statement}
 use Rattle.mesh.proofs.tiles.fill_part.Tie as tie
 
 abbrev Inv-loop : tie.InvT-loop
-Inv-loop mask₀ cells v p side axes slice beyond n any₀ b₀ mask any b = (b ≤ n) × PartTo (shapeOf v) p side beyond cells slice b mask₀ mask any
+Inv-loop mask₀ cells v p side slice beyond n any₀ b₀ mask any b = (b ≤ n) × PartTo (shapeOf v) p (side .number) beyond cells slice b mask₀ mask any
 
 abbrev μ-loop : tie.MeasureT-loop
-μ-loop mask₀ cells v p side axes slice beyond n any₀ b₀ mask any b = n - b
+μ-loop mask₀ cells v p side slice beyond n any₀ b₀ mask any b = n - b
 
 abbrev start : tie.After-on-axis Inv-loop μ-loop → tie.Start Inv-loop μ-loop
 start c = c .before .before .before .before
 
-across : (c : tie.After-on-axis Inv-loop μ-loop) → c .on-axis .result ≡ onAxis (secondAt (start c .args .side)) (start c .args .p .across)
-across c = second-is (start c .args .side) (start c .pre .1) (start c .args .p .across) (c .on-axis .ensures)
+across : (c : tie.After-on-axis Inv-loop μ-loop) → c .on-axis .result ≡ onAxis (secondAt (start c .args .side .number)) (start c .args .p .across)
+across c = second-is (start c .args .side .number) (axes-read (start c .pre .1)) (start c .args .p .across) (c .on-axis .ensures)
 
-left : (c : tie.In-loop Inv-loop μ-loop) → let t = c .before .before in c .before .loop .b < onAxis (secondAt (start t .args .side)) (start t .args .p .across)
+left : (c : tie.In-loop Inv-loop μ-loop) → let t = c .before .before in c .before .loop .b < onAxis (secondAt (start t .args .side .number)) (start t .args .p .across)
 left c = omega (arith, c .loop-test .taken, across (c .before .before))
 
 on-axis-requires : tie.Need-on-axis-requires Inv-loop μ-loop
@@ -57,7 +58,7 @@ returns : tie.Need-returns Inv-loop μ-loop
 returns c =
     let t = c .before .before in
     let s = start t in
-    rw (high-all (shapeOf (s .args .v)) (s .args .p) (s .args .side) (c .before .loop .b) (omega (arith, across t))) at (c .before .loop .inv .1)
+    rw (high-all (shapeOf (s .args .v)) (s .args .p) (s .args .side .number) (c .before .loop .b) (omega (arith, across t))) at (c .before .loop .inv .1)
 
 pub fill-part-spec : {M : Type 1} → statement M
 fill-part-spec =

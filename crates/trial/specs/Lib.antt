@@ -1,2 +1,0 @@
--- The definitions that the contracts of `trial` cite.
-pub mod Turn
