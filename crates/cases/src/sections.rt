@@ -32,6 +32,7 @@ use exports::read::stand_solid_count;
 use exports::walk::stand_changed_since;
 use exports::walk::stand_changed_step;
 use stand::volume::Volume;
+use stand::volume::answer::NumberAnswer;
 use stand::volume::hash::splitmix64;
 
 pub(crate) fn read_header(v: Volume, verb: u64, a: Numbers) -> Numbers {
@@ -85,6 +86,20 @@ fn changed(v: Volume, log: &[u32], last: &[u64], mark: u64) -> Numbers {
     given
 }
 
+fn walked(answer: NumberAnswer, list: [u64; 12]) -> Numbers {
+    match answer {
+        NumberAnswer::Is(n) => and_u64(none(), some64(&list, n as usize)),
+        NumberAnswer::Refused(n) => said(n, none()),
+    }
+}
+
+// The same by the reader: made at the mark, then step after step.
+fn walk(v: Volume, log: &[u32], last: &[u64], mark: u64) -> Numbers {
+    let mut list = [0u64; 12];
+    let answer = v.walk_changed(log, last, mark, &mut list);
+    walked(answer, list)
+}
+
 fn read_changes(
     v: Volume,
     versions: &[u32],
@@ -96,6 +111,7 @@ fn read_changes(
     match verb {
         503 => number(stand_chunk_version(v, versions, count(a, 0))),
         504 => changed(v, log, last, arg(a, 0)),
+        506 => walk(v, log, last, arg(a, 0)),
         _ => and_u64(and_u32(and_u32(none(), versions), log), last),
     }
 }

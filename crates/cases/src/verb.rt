@@ -63,7 +63,7 @@ pub(crate) fn verb_of(line: &[u8], w: Word, a: Numbers) -> Verb {
 open cccccc 200 set cccf 201 fill ccccccf 202 \
 get ccc 300 inside ccc 301 occupied ccc 302 section ccc 303 clamp ccc 304 solids . 305 \
 origin . 400 max . 401 size . 402 sections . 403 count . 404 solid . 405 generation . 406 corner n 407 wants n 408 merged ccc 409 splitmix n 410 \
-digest . 500 stand . 501 hash n 502 version n 503 changed n 504 lists . 505 \
+digest . 500 stand . 501 hash n 502 version n 503 changed n 504 lists . 505 walk n 506 \
 panels no 600 whole o 601 slice ndno 602 claim n 603 panel n 610 slots . 611 numbers . 612 \
 open-sheet o 700 refresh o 701 totals . 710 rows . 711 marked . 712";
     let e = find(line, w, table);
