@@ -3,6 +3,7 @@ pub mod Edit
 pub mod Feed
 pub mod Fill
 pub mod Formed
+pub mod Held
 pub mod Kept
 pub mod Levels
 pub mod Opened

@@ -29,20 +29,19 @@ use types.Run.{look, init, store, forget, stop, hop, fld, from, load, lit, addr,
 use types.SemTy.{cells, Arr}
 use types.Tokens.{lft-new, lft-end}
 use sound.WpLaws.{FmC, fmOf, WpFn-mono}
-use denote.RattleType.{RattleType, owns}
+use denote.RattleType.{owns}
 use denote.Laws.{Is, shows}
 use denote.Memory.{mem}
 use denote.Shadow.{pureI}
 use denote.Plain.{uint-makes, uint-vals, uint-tells, bool-lawful}
 use denote.Builtin.{bool, u32, u64, usize}
 use denote.Ref.{RefT, NamedLft, now}
-use denote.Signature.{plain, namedLft}
+use denote.Signature.{plain}
 use denote.Slice.{sliceTy, sliceVal, MutSlice, ShrSlice, Room, heres, at-slice, codedHoleys, slice-vals, mut-slice-tells, shr-slice-tells, shr-slice-lawful, shr-slice-copy}
 use denote.Lend.{Held, lends-slice, slice-back}
 use denote.Index.{row, whole-in, whole-out, opens-slice, closes-slice}
 use denote.Steps.{only, owned, peeks, heard, nothing}
 use denote.Enum.Laws as EL
-use denote.Struct.Declared.{Declared}
 use denote.Struct.Laws as LL
 use denote.Struct.Rest.{all-own, own-open}
 use denote.Triple.Statement.{Contract, Triple}
@@ -57,6 +56,7 @@ use Rattle.stand.specs.Feed.{changedStep, chunkStep, feedRefusal, gave, 
 use Rattle.stand.specs.declared.volume.Volume.{Volume}
 use Rattle.stand.specs.declared.volume.reader.ChangedChunks.{ChangedChunks}
 use Rattle.stand.specs.declared.volume.reader.Stepped.{Stepped}
+use Rattle.stand.proofs.Held.{reader-laws, reader-row, reader-type, step-laws, step-row, step-type}
 use Rattle.stand.proofs.Walking.{Goes-on, Under-way, ends-there, goes-on, sets-out}
 use Rattle.stand.proofs.volume.reader.ChangedChunks as T
 use Rattle.stand.proofs.volume.reader.ChangedChunks.Laws as T′
@@ -82,25 +82,6 @@ use Rattle.stand.proofs.volume.reader.collect.Key.{name as #collect}
 use Rattle.stand.proofs.volume.reader.collect as collect
 use Rattle.stand.proofs.volume.reader.collect.Statement as stated
 use Rattle.stand.proofs.volume.reader.collect.Code as code
-
--- the types of the reader and of what a step returns, over the lifetimes of the two lists, their descriptions and their laws
-abbrev B : Lfts 2 → RattleType
-B κs = T.the-row (namedLft 2 0 tt κs) (namedLft 2 1 tt κs)
-
-abbrev D : Lfts 2 → Declared
-D κs = T.the-type (namedLft 2 0 tt κs) (namedLft 2 1 tt κs)
-
-abbrev L : (κs : Lfts 2) → LL.Laws (D κs)
-L κs = T′.the-laws (namedLft 2 0 tt κs) (namedLft 2 1 tt κs)
-
-abbrev B′ : Lfts 2 → RattleType
-B′ κs = R.the-row (namedLft 2 0 tt κs) (namedLft 2 1 tt κs)
-
-abbrev D′ : Lfts 2 → Declared
-D′ κs = R.the-type (namedLft 2 0 tt κs) (namedLft 2 1 tt κs)
-
-abbrev L′ : (κs : Lfts 2) → LL.Laws (D′ κs)
-L′ κs = R′.the-laws (namedLft 2 0 tt κs) (namedLft 2 1 tt κs)
 
 abbrev stayed : Stays (collect.ended .signature .params) (collect.ended .kept)
 stayed = (stay-none (λ _. Hd.the-row) yes, (stay-none-slice (0 ∷ []) tt (plain (λ _. u32)) yes, (stay-none-slice (1 ∷ []) tt (plain (λ _. u64)) yes, (stay-none (λ _. u64) yes, (stay-slice (2 ∷ []) tt (plain (λ _. u64)), tt)))))
@@ -317,14 +298,14 @@ module _ {M : Type 1} (𝓤 : URA M) (H : Heap 𝓤) (A : Atoms 𝓤) (W : Given
   abbrev to-step : ChangedChunks → Step 𝓤 H A at-mem run .Ghost
   to-step d = ((κs₂, qs₂, tt, (d, (v, tt)), (T′.lowered d ∷ [], (Hd′.lowered v ∷ [], tt))), tt)
 
-  step-asked : (d : ChangedChunks) → ent 𝓤 (⋆ 𝓤 H A (‵ (B κs₂ .own d (T′.lowered d ∷ [])) ∷ tokens ∷ [])) (Step 𝓤 H A at-mem run .pre (to-step d))
+  step-asked : (d : ChangedChunks) → ent 𝓤 (⋆ 𝓤 H A (‵ (reader-row κs₂ .own d (T′.lowered d ∷ [])) ∷ tokens ∷ [])) (Step 𝓤 H A at-mem run .pre (to-step d))
   step-asked d =
-      qed W (‵ (B κs₂ .own d (T′.lowered d ∷ [])) ∷ tokens ∷ []) ∵ nothing ! $ owned ! Hd.the-row (Is Hd.the-row) (LL.makes Hd.the-type Hd′.the-plain 𝓤 H A) v _ v-is $ fjoin ! $ move ! (1 ∷ 0 ∷ []) $ fjoin ! $ move ! (1 ∷ 0 ∷ []) $ join ! $ frame ! $ done !
+      qed W (‵ (reader-row κs₂ .own d (T′.lowered d ∷ [])) ∷ tokens ∷ []) ∵ nothing ! $ owned ! Hd.the-row (Is Hd.the-row) (LL.makes Hd.the-type Hd′.the-plain 𝓤 H A) v _ v-is $ fjoin ! $ move ! (1 ∷ 0 ∷ []) $ fjoin ! $ move ! (1 ∷ 0 ∷ []) $ join ! $ frame ! $ done !
 
   step-said : (d : ChangedChunks) (s : Stepped) → ent 𝓤 (ensured 𝓤 H A step.ended (step.clauses 𝓤 H A at-mem run) κs₂ (d, (v, tt)) tt s) (fact 𝓤 (Moved v s₁ s₂ mark ys d s))
   step-said d s = exE 𝓤 _ (λ ws. snd∗ 𝓤 (sem 𝓤 H A (lasts step.ended κs₂ (d, (v, tt)) ws)) (fact 𝓤 (Moved v s₁ s₂ mark ys d s)))
 
-  reader-typed : (d : ChangedChunks) (w : Val) → Is (B κs₂) d (w ∷ []) → Holds (hasTy (T′.mir erased erased) w) × WT w
+  reader-typed : (d : ChangedChunks) (w : Val) → Is (reader-row κs₂) d (w ∷ []) → Holds (hasTy (T′.mir erased erased) w) × WT w
   reader-typed d w is = LL.lawful (T.the-type αᵉ βᵉ) (T′.the-laws αᵉ βᵉ) 𝓤 H A W .typed d (w ∷ []) is .0
 
   -- ---- the call of `put_given`, with out's cells lent for the lifetime ν under the name δ
@@ -359,7 +340,7 @@ module _ {M : Type 1} (𝓤 : URA M) (H : Heap 𝓤) (A : Atoms 𝓤) (W : Given
 
   abbrev I : (l₀ l₁ l₂ l₃ l₄ l₅ l₆ l₇ l₈ l₉ l₁₀ l₁₁ l₁₂ l₁₃ : ℕ) → Turn v s₁ s₂ mark ys → List (Item 𝓤)
   I l₀ l₁ l₂ l₃ l₄ l₅ l₆ l₇ l₈ l₉ l₁₀ l₁₁ l₁₂ l₁₃ t =
-      ‵ (B κs₂ .own (t .reader) (T′.lowered (t .reader) ∷ [])) ∷ ‵ (cells (mem u64) (t .list) b o) ∷ ‵ Opened ∷ tokens ∷ ‵ Lists
+      ‵ (reader-row κs₂ .own (t .reader) (T′.lowered (t .reader) ∷ [])) ∷ ‵ (cells (mem u64) (t .list) b o) ∷ ‵ Opened ∷ tokens ∷ ‵ Lists
       ∷ free lent-ty l₁₃ (free (tyRef erased mut (tyInt w64)) l₁₂ (free S′.mir l₁₁ (free tyBool l₁₀ (free (T′.mir erased erased) l₉ (free (R′.mir erased erased) l₈
       (full (tyInt w64) l₇ (vint w64 (t .at)) (full (T′.mir erased erased) l₆ (T′.lowered (t .reader)) (full out-ty l₅ (sliceVal (b, o) (length ys)) (full (tyInt w64) l₄ (vint w64 mark) (full last-ty l₃ (slice s₂) (full log-ty l₂ (slice s₁) (full Hd′.mir l₁ (Hd′.lowered v) (free (tyInt w64) l₀ [])))))))))))))
 
@@ -381,27 +362,27 @@ module _ {M : Type 1} (𝓤 : URA M) (H : Heap 𝓤) (A : Atoms 𝓤) (W : Given
         move ! (28 ∷ []) $ use1 W (raw (Make 𝓤 H A at-mem run .pre to-make) ⊛ ‵ Lists ⊛ ‵ (Out ys) ⊛ ‵ (flft κ₃ q₃)) sets-off $ split ! $ move ! (1 ∷ []) $ split ! $ move ! (1 ∷ []) $ split ! $ move ! (3 ∷ []) $
         -- [what `make` asks; what out owns; its token; what log and last own; _13; …]
         calls-at ! fm (Make 𝓤 H A at-mem run) known-make to-make (and-then ! (load ! (from ! (stop !)) (look ! 26 refl)) (and-then ! (load ! (from ! (stop !)) (look ! 24 refl)) (and-then ! (load ! (from ! (stop !)) (look ! 22 refl)) (no-more !)))) (λ u.
-        use1 W (later (some (λ (d : ChangedChunks). (tokens ⊛ ‵ (B κs₂ .own d (u ∷ []))) ⊛ raw (ensured 𝓤 H A make.ended (make.clauses 𝓤 H A at-mem run) κs₂ (s₁, (s₂, (mark, tt))) tt d)))) (id⊢ 𝓤 _) $ await ! tt $ pick ! (λ d.
+        use1 W (later (some (λ (d : ChangedChunks). (tokens ⊛ ‵ (reader-row κs₂ .own d (u ∷ []))) ⊛ raw (ensured 𝓤 H A make.ended (make.clauses 𝓤 H A at-mem run) κs₂ (s₁, (s₂, (mark, tt))) tt d)))) (id⊢ 𝓤 _) $ await ! tt $ pick ! (λ d.
         split ! $ move ! (1 ∷ []) $ use1 W (raw (fact 𝓤 (Made v s₁ s₂ mark ys d))) (make-said d) $ heard ! (Made v s₁ s₂ mark ys d) (λ e. split ! $ move ! (1 ∷ []) $
         -- [what the reader owns; the tokens; what out owns; its token; what log and last own; _13; …]: _i at 31 - 2i
-        peeks ! (B κs₂) (Is (B κs₂)) (shows 𝓤 H A (B κs₂)) d (u ∷ []) (λ is.
-        land ! (from ! (stop !)) (init ! 19 refl (reader-typed d _ is)) $ rewrite ! 19 (λ (z : Val). ‵ (fat fullShare (T′.mir erased erased) l₆ 0 z)) (ap only (LL.tells (D κs₂) (L κs₂) d _ is)) refl $ rewrite ! 0 (λ (z : Val). ‵ (B κs₂ .own d (z ∷ []))) (ap only (LL.tells (D κs₂) (L κs₂) d _ is)) refl $
+        peeks ! (reader-row κs₂) (Is (reader-row κs₂)) (shows 𝓤 H A (reader-row κs₂)) d (u ∷ []) (λ is.
+        land ! (from ! (stop !)) (init ! 19 refl (reader-typed d _ is)) $ rewrite ! 19 (λ (z : Val). ‵ (fat fullShare (T′.mir erased erased) l₆ 0 z)) (ap only (LL.tells (reader-type κs₂) (reader-laws κs₂) d _ is)) refl $ rewrite ! 0 (λ (z : Val). ‵ (reader-row κs₂ .own d (z ∷ []))) (ap only (LL.tells (reader-type κs₂) (reader-laws κs₂) d _ is)) refl $
         assigns ! (of-opd ! (lit ! tt)) (from ! (stop !)) (init ! 17 refl (tt, record { fits = lit< tt })) $
         -- the borrow of out is opened, for the whole loop
         move ! (2 ∷ 3 ∷ []) $ use2 W (later (‵ (cells (mem u64) ys b o) ⊛ ‵ Opened)) opens-out $ await ! tt $ split ! $ move ! (2 ∷ []) $
         first ! $ blocks ! $ loops ! 𝓣 (Nearer v s₁ s₂ mark ys) (nearer-wf v s₁ s₂ mark ys) (I l₀ l₁ l₂ l₃ l₄ l₅ l₆ l₇ l₈ l₉ l₁₀ l₁₁ l₁₂ l₁₃) (λ t.
-        peeks ! (B κs₂) (Is (B κs₂)) (shows 𝓤 H A (B κs₂)) (t .reader) (T′.lowered (t .reader) ∷ []) (λ d-is.
+        peeks ! (reader-row κs₂) (Is (reader-row κs₂)) (shows 𝓤 H A (reader-row κs₂)) (t .reader) (T′.lowered (t .reader) ∷ []) (λ d-is.
         assigns ! (of-opd ! (load ! (from ! (stop !)) (look ! 19 refl))) (from ! (stop !)) (init ! 13 refl (reader-typed (t .reader) _ d-is)) $
         move ! (0 ∷ 3 ∷ []) $ use2 W (raw (Step 𝓤 H A at-mem run .pre (to-step (t .reader)))) (step-asked (t .reader)) $
         -- [what `step` asks; out's cells; its open borrow; what log and last own; _13; …]: _i at 30 - 2i
         calls-at ! fm (Step 𝓤 H A at-mem run) known-step (to-step (t .reader)) (and-then ! (load ! (from ! (stop !)) (look ! 12 refl)) (and-then ! (load ! (from ! (stop !)) (look ! 28 refl)) (no-more !))) (λ w.
-        use1 W (later (some (λ (s : Stepped). (tokens ⊛ ‵ (B′ κs₂ .own s (w ∷ []))) ⊛ raw (ensured 𝓤 H A step.ended (step.clauses 𝓤 H A at-mem run) κs₂ (t .reader, (v, tt)) tt s)))) (id⊢ 𝓤 _) $ await ! tt $ pick ! (λ s.
+        use1 W (later (some (λ (s : Stepped). (tokens ⊛ ‵ (step-row κs₂ .own s (w ∷ []))) ⊛ raw (ensured 𝓤 H A step.ended (step.clauses 𝓤 H A at-mem run) κs₂ (t .reader, (v, tt)) tt s)))) (id⊢ 𝓤 _) $ await ! tt $ pick ! (λ s.
         split ! $ move ! (1 ∷ []) $ use1 W (raw (fact 𝓤 (Moved v s₁ s₂ mark ys (t .reader) s))) (step-said (t .reader) s) $ heard ! (Moved v s₁ s₂ mark ys (t .reader) s) (λ m. split ! $ move ! (1 ∷ []) $
-        peeks ! (B′ κs₂) (Is (B′ κs₂)) (shows 𝓤 H A (B′ κs₂)) s (w ∷ []) (λ s-is.
-        land ! (from ! (stop !)) (init ! 15 refl (LL.lawful (R.the-type αᵉ βᵉ) (R′.the-laws αᵉ βᵉ) 𝓤 H A W .typed s _ s-is .0)) $ rewrite ! 15 (λ (z : Val). ‵ (fat fullShare (R′.mir erased erased) l₈ 0 z)) (ap only (LL.tells (D′ κs₂) (L′ κs₂) s _ s-is)) refl $
-        use1 W (given (w ∷ [] ≡ LL.val (D′ κs₂) (L′ κs₂) s ∷ []) (‵ (all-own (D′ κs₂ .parts) (L′ κs₂) (s .step, (s .reader, tt))))) (own-open 𝓤 H A W (D′ κs₂) (L′ κs₂) (s .step, (s .reader, tt)) w) $ learn ! (λ _. fsplit ! $ move ! (1 ∷ []) $ fsplit ! $ move ! (1 ∷ []) $ drop ! $
+        peeks ! (step-row κs₂) (Is (step-row κs₂)) (shows 𝓤 H A (step-row κs₂)) s (w ∷ []) (λ s-is.
+        land ! (from ! (stop !)) (init ! 15 refl (LL.lawful (R.the-type αᵉ βᵉ) (R′.the-laws αᵉ βᵉ) 𝓤 H A W .typed s _ s-is .0)) $ rewrite ! 15 (λ (z : Val). ‵ (fat fullShare (R′.mir erased erased) l₈ 0 z)) (ap only (LL.tells (step-type κs₂) (step-laws κs₂) s _ s-is)) refl $
+        use1 W (given (w ∷ [] ≡ LL.val (step-type κs₂) (step-laws κs₂) s ∷ []) (‵ (all-own (step-type κs₂ .parts) (step-laws κs₂) (s .step, (s .reader, tt))))) (own-open 𝓤 H A W (step-type κs₂) (step-laws κs₂) (s .step, (s .reader, tt)) w) $ learn ! (λ _. fsplit ! $ move ! (1 ∷ []) $ fsplit ! $ move ! (1 ∷ []) $ drop ! $
         -- [what the reader moved on owns; what the step owns; the tokens; out's cells; its open borrow; what log and last own; _13; …]: _i at 32 - 2i
-        assigns ! (of-opd ! (load ! (from ! (fld ! refl (stop !))) (look-in ! 16 (sub ! 0 refl (whole !))))) (from ! (stop !)) (init ! 10 refl (EL.lawful S.the-type S′.the-laws 𝓤 H A W tt .typed (s .step) _ (LL.owed (D′ κs₂) (L′ κs₂) s _ s-is .0) .0)) $
+        assigns ! (of-opd ! (load ! (from ! (fld ! refl (stop !))) (look-in ! 16 (sub ! 0 refl (whole !))))) (from ! (stop !)) (init ! 10 refl (EL.lawful S.the-type S′.the-laws 𝓤 H A W tt .typed (s .step) _ (LL.owed (step-type κs₂) (step-laws κs₂) s _ s-is .0) .0)) $
         assigns ! (addr ! (from ! (fld ! refl (hop ! (look-in ! 22 (sub ! 0 refl (whole !))) (stop !))))) (from ! (stop !)) (init ! 8 refl (tt, tt)) $
         assigns ! (agg ! (and-then ! (load ! (from ! (stop !)) (look ! 8 refl)) (and-then ! (load ! (from ! (fld ! refl (stop !))) (look-in ! 22 (sub ! 1 refl (whole !)))) (no-more !)))) (from ! (stop !)) (init ! 6 refl (tt, (tt, (record { fits = room .0 }, tt)))) $ rewrite ! 6 (λ (n : ℕ). ‵ (fat fullShare (sliceTy (tyRef erased mut (tyInt w64))) l₁₃ 0 (sliceVal (b, o) n))) (sym (t .same-length)) refl $
         -- the cells are lent for a lifetime ν of the call
@@ -421,7 +402,7 @@ module _ {M : Type 1} (𝓤 : URA M) (H : Heap 𝓤) (A : Atoms 𝓤) (W : Given
         branches ! (load ! (from ! (stop !)) (look ! 11 refl))
         (λ q. let k = goes v s₁ s₂ mark ys t s m y (zs .1 .1 .0) p q in
         assigns ! (bin ! (load ! (from ! (stop !)) (look ! 17 refl)) (lit ! tt) (record { fits = lt-of-le-of-lt (k .below) gen-fits })) (from ! (stop !)) (store ! 17 refl (tt, record { fits = lt-of-le-of-lt (k .below) gen-fits })) $
-        assigns-last ! (of-opd ! (load ! (from ! (fld ! refl (stop !))) (look-in ! 15 (sub ! 1 refl (whole !))))) (from ! (stop !)) (store ! 19 refl (reader-typed (s .reader) _ (LL.owed (D′ κs₂) (L′ κs₂) s _ s-is .1 .0))) $
+        assigns-last ! (of-opd ! (load ! (from ! (fld ! refl (stop !))) (look-in ! 15 (sub ! 1 refl (whole !))))) (from ! (stop !)) (store ! 19 refl (reader-typed (s .reader) _ (LL.owed (step-type κs₂) (step-laws κs₂) s _ s-is .1 .0))) $
         forget ! 15 refl $ forget ! 13 refl $ forget ! 11 refl $ forget ! 9 refl $ forget ! 7 refl $ forget ! 5 refl $ again ! (Nearer v s₁ s₂ mark ys) (I l₀ l₁ l₂ l₃ l₄ l₅ l₆ l₇ l₈ l₉ l₁₀ l₁₁ l₁₂ l₁₃) t (next v s₁ s₂ mark ys t s m y (zs .1 .1 .0) p n (lt-of-le-of-lt (k .below) gen-fits) k) (closer v s₁ s₂ mark ys t s m k))
         (λ q. move ! (1 ∷ 2 ∷ []) $ use2 W (later (‵ (Out (zs .1 .1 .0)) ⊛ ‵ (flft κ₃ q₃))) (shuts-out (zs .1 .1 .0) (n ∙ t .same-length)) $ await ! tt $ split ! $
         assigns ! (of-opd ! (load ! (from ! (stop !)) (look ! 17 refl))) (from ! (stop !)) (init ! 31 refl (tt, record { fits = t .fits })) $

@@ -21,7 +21,7 @@ use types.Kit.{Given, Item, ‵, raw, _⊛_, given, ⋆, some, later, _$_, _∵_
 use types.Part.{whole, sub, look-in, agg}
 use types.Run.{look, init, forget, stop, fld, from, load, of-opd, and-then, no-more, assigns, land, returns, enter, alloc1, alloc0, params1, pass1, pass0, free1, free0}
 use sound.WpLaws.{FmC, fmOf, WpFn-mono}
-use denote.RattleType.{RattleType, owns}
+use denote.RattleType.{owns}
 use denote.Laws.{Is, shows}
 use denote.Plain.{uint-makes, uint-lawful}
 use denote.Builtin.{u32, u64}
@@ -30,7 +30,6 @@ use denote.Signature.{namedLft}
 use denote.Slice.{sliceVal, ShrSlice}
 use denote.Steps.{only, owned, peeks, heard, nothing}
 use denote.Enum.Laws as EL
-use denote.Struct.Declared.{Declared}
 use denote.Struct.Laws as LL
 use denote.Struct.Rest.{all-own, own-open, own-shut, own-put}
 use denote.Struct.Values.{Values}
@@ -47,10 +46,8 @@ use Rattle.stand.specs.declared.volume.Volume.{Volume}
 use Rattle.stand.specs.declared.volume.reader.ChangedChunks.{ChangedChunks}
 use Rattle.stand.specs.declared.volume.reader.Stepped.{Stepped}
 use Rattle.stand.specs.declared.volume.feed.ChunkStep.{ChunkStep}
-use Rattle.stand.proofs.volume.reader.ChangedChunks as T
+use Rattle.stand.proofs.Held.{reader-laws, reader-row, reader-type, step-laws, step-row, step-type}
 use Rattle.stand.proofs.volume.reader.ChangedChunks.Laws as T′
-use Rattle.stand.proofs.volume.reader.Stepped as R
-use Rattle.stand.proofs.volume.reader.Stepped.Laws as R′
 use Rattle.stand.proofs.volume.Volume as Hd
 use Rattle.stand.proofs.volume.Volume.Laws as Hd′
 use Rattle.stand.proofs.volume.feed.ChunkStep as S
@@ -68,24 +65,8 @@ use Rattle.stand.proofs.volume.reader.ChangedChunks.step as step
 use Rattle.stand.proofs.volume.reader.ChangedChunks.step.Statement as stated
 use Rattle.stand.proofs.volume.reader.ChangedChunks.step.Code as code
 
--- the reader's type, its description and its laws, over the signature's lifetimes, and the result's
-abbrev B : Lfts 2 → RattleType
-B κs = T.the-row (namedLft 2 0 tt κs) (namedLft 2 1 tt κs)
-
-abbrev D : Lfts 2 → Declared
-D κs = T.the-type (namedLft 2 0 tt κs) (namedLft 2 1 tt κs)
-
-abbrev L : (κs : Lfts 2) → LL.Laws (D κs)
-L κs = T′.the-laws (namedLft 2 0 tt κs) (namedLft 2 1 tt κs)
-
-abbrev D′ : Lfts 2 → Declared
-D′ κs = R.the-type (namedLft 2 0 tt κs) (namedLft 2 1 tt κs)
-
-abbrev L′ : (κs : Lfts 2) → LL.Laws (D′ κs)
-L′ κs = R′.the-laws (namedLft 2 0 tt κs) (namedLft 2 1 tt κs)
-
 abbrev stayed : Stays (step.ended .signature .params) (step.ended .kept)
-stayed = (stay-none B yes, (stay-none (λ _. Hd.the-row) yes, tt))
+stayed = (stay-none reader-row yes, (stay-none (λ _. Hd.the-row) yes, tt))
 
 module _ {M : Type 1} (𝓤 : URA M) (H : Heap 𝓤) (A : Atoms 𝓤) (mem : Memory → SProp 𝓤) (run : Routine → Fun 𝓤) where
   -- the contracts that the proof cites
@@ -95,7 +76,7 @@ module _ {M : Type 1} (𝓤 : URA M) (H : Heap 𝓤) (A : Atoms 𝓤) (mem : Mem
   abbrev After : Contract 𝓤
   After = tripleOf 𝓤 H A after.signature (after.spec 𝓤 H A mem run)
 
-module _ {M : Type 1} (𝓤 : URA M) (H : Heap 𝓤) (A : Atoms 𝓤) (W : Given 𝓤 H A) (mem : Memory → SProp 𝓤) (run : Routine → Fun 𝓤) (κ₁ κ₂ : Lft) (q₁ q₂ : Share) (d : ChangedChunks) (v : Volume) (d-is : Is (B (κ₁, (κ₂, tt))) d (T′.lowered d ∷ [])) (was : Is Hd.the-row v (Hd′.lowered v ∷ [])) where
+module _ {M : Type 1} (𝓤 : URA M) (H : Heap 𝓤) (A : Atoms 𝓤) (W : Given 𝓤 H A) (mem : Memory → SProp 𝓤) (run : Routine → Fun 𝓤) (κ₁ κ₂ : Lft) (q₁ q₂ : Share) (d : ChangedChunks) (v : Volume) (d-is : Is (reader-row (κ₁, (κ₂, tt))) d (T′.lowered d ∷ [])) (was : Is Hd.the-row v (Hd′.lowered v ∷ [])) where
   abbrev κs : Lfts 2
   κs = (κ₁, (κ₂, tt))
 
@@ -121,14 +102,14 @@ module _ {M : Type 1} (𝓤 : URA M) (H : Heap 𝓤) (A : Atoms 𝓤) (W : Given
   Post = walkOf 𝓤 H A step.ended stayed (step.clauses 𝓤 H A mem run) .post ((κs, qs, tt, a, at), tt)
 
   abbrev Own : Fml
-  Own = B κs .own d (mach ∷ [])
+  Own = reader-row κs .own d (mach ∷ [])
 
   -- the reader's fields' values
-  abbrev vd : Values (D κs .parts)
+  abbrev vd : Values (reader-type κs .parts)
   vd = (d .log, (d .last, (d .next, tt)))
 
   next-fits : d .next < 2 ^ 64
-  next-fits = LL.owed (D κs) (L κs) d _ d-is .1 .1 .0 .1
+  next-fits = LL.owed (reader-type κs) (reader-laws κs) d _ d-is .1 .1 .0 .1
 
   -- ---- the call of `changed_step`: what it is passed, what it asks, and what is known of its result
   abbrev Passed : Type 0
@@ -149,9 +130,9 @@ module _ {M : Type 1} (𝓤 : URA M) (H : Heap 𝓤) (A : Atoms 𝓤) (W : Given
   -- what the reader owns gives what the callee asks, and is kept
   apart : ent 𝓤 (onEntry 𝓤 H A step.signature κs qs a at) (sep 𝓤 (Callee 𝓤 H A mem run .pre to) (sem 𝓤 H A Own))
   apart =
-      qed W (tokens ∷ ‵ (owns (B κs ∷ Hd.the-row ∷ []) a at) ∷ []) ∵
-      move ! (1 ∷ []) $ fsplit ! $ move ! (1 ∷ []) $ drop ! $ use1 W (‵ Own ⊛ ‵ Own) (LL.copy (D κs) (T′.the-copy (namedLft 2 0 tt κs) (namedLft 2 1 tt κs)) 𝓤 H A W .twice d (mach ∷ [])) $ split ! $
-      use1 W (given (mach ∷ [] ≡ mach ∷ []) (‵ (all-own (D κs .parts) (L κs) vd))) (own-open 𝓤 H A W (D κs) (L κs) vd mach) $ learn ! (λ _. fsplit ! $ move ! (1 ∷ []) $ fsplit ! $
+      qed W (tokens ∷ ‵ (owns (reader-row κs ∷ Hd.the-row ∷ []) a at) ∷ []) ∵
+      move ! (1 ∷ []) $ fsplit ! $ move ! (1 ∷ []) $ drop ! $ use1 W (‵ Own ⊛ ‵ Own) (LL.copy (reader-type κs) (T′.the-copy (namedLft 2 0 tt κs) (namedLft 2 1 tt κs)) 𝓤 H A W .twice d (mach ∷ [])) $ split ! $
+      use1 W (given (mach ∷ [] ≡ mach ∷ []) (‵ (all-own (reader-type κs .parts) (reader-laws κs) vd))) (own-open 𝓤 H A W (reader-type κs) (reader-laws κs) vd mach) $ learn ! (λ _. fsplit ! $ move ! (1 ∷ []) $ fsplit ! $
       -- [what last owns; what next owns; what log owns; what the reader owns; the tokens]
       move ! (1 ∷ []) $ drop ! $ nothing ! $ owned ! u64 (Is u64) (uint-makes 𝓤 H A W w64) (d .next) _ (refl, next-fits) $ fjoin ! $ move ! (1 ∷ 0 ∷ []) $ fjoin ! $ move ! (1 ∷ 0 ∷ []) $ fjoin ! $ owned ! Hd.the-row (Is Hd.the-row) (LL.makes Hd.the-type Hd′.the-plain 𝓤 H A) v _ was $ fjoin ! $
       -- [what the callee's parameters own; what the reader owns; the tokens]
@@ -199,28 +180,28 @@ module _ {M : Type 1} (𝓤 : URA M) (H : Heap 𝓤) (A : Atoms 𝓤) (W : Given
       result = record { step = r; reader = moved }
 
       abbrev mach′ : Val
-      mach′ = LL.val (D′ κs) (L′ κs) result
+      mach′ = LL.val (step-type κs) (step-laws κs) result
 
-      moved-is : Is (B κs) moved (T′.lowered moved ∷ [])
-      moved-is = let o = LL.owed (D κs) (L κs) d _ d-is in LL.owes (D κs) (L κs) moved (o .0, (o .1 .0, ((refl, n-fits), tt)))
+      moved-is : Is (reader-row κs) moved (T′.lowered moved ∷ [])
+      moved-is = let o = LL.owed (reader-type κs) (reader-laws κs) d _ d-is in LL.owes (reader-type κs) (reader-laws κs) moved (o .0, (o .1 .0, ((refl, n-fits), tt)))
 
-      result-is : Is (R.the-row (namedLft 2 0 tt κs) (namedLft 2 1 tt κs)) result (mach′ ∷ [])
-      result-is = LL.owes (D′ κs) (L′ κs) result (r-is, (moved-is, tt))
+      result-is : Is (step-row κs) result (mach′ ∷ [])
+      result-is = LL.owes (step-type κs) (step-laws κs) result (r-is, (moved-is, tt))
 
       exits : Right r → n ≡ nextAfter (chunkStep r) (d .next) → ent 𝓤 (⋆ 𝓤 H A (tokens ∷ ‵ Own ∷ [])) (Post mach′)
       exits e e′ =
           qed W (tokens ∷ ‵ Own ∷ []) ∵
           suffices ! _ (ends-at 𝓤 H A step.ended stayed (step.clauses 𝓤 H A mem run) W ((κs, qs, tt, a, at), tt) mach′ result (tt, (tt, tt)) (tt, (tt, tt))) $ says ! (e, refl, refl, e′) $
-          frame ! $ use1 W (‵ Own ⊛ ‵ Own) (LL.copy (D κs) (T′.the-copy (namedLft 2 0 tt κs) (namedLft 2 1 tt κs)) 𝓤 H A W .twice d (mach ∷ [])) $ split ! $
+          frame ! $ use1 W (‵ Own ⊛ ‵ Own) (LL.copy (reader-type κs) (T′.the-copy (namedLft 2 0 tt κs) (namedLft 2 1 tt κs)) 𝓤 H A W .twice d (mach ∷ [])) $ split ! $
           nothing ! $ owned ! Hd.the-row (Is Hd.the-row) (LL.makes Hd.the-type Hd′.the-plain 𝓤 H A) v _ was $ fjoin ! $ move ! (1 ∷ 0 ∷ []) $ fjoin ! $ frame ! $
           -- [what the reader owns]: the next number's facts take the place of the old one's
-          owned ! u64 (Is u64) (uint-makes 𝓤 H A W w64) n _ (refl, n-fits) $ move ! (1 ∷ 0 ∷ []) $ use2 W (‵ (B κs .own moved (T′.lowered moved ∷ []))) (own-put 𝓤 H A W (D κs) (L κs) 2 vd n mach) $
-          nothing ! $ move ! (1 ∷ 0 ∷ []) $ fjoin ! $ owned ! S.the-row (Is S.the-row) (EL.makes S.the-type S′.the-plain 𝓤 H A) r _ r-is $ fjoin ! $ by ! (own-shut 𝓤 H A W (D′ κs) (L′ κs) (r, (moved, tt)))
+          owned ! u64 (Is u64) (uint-makes 𝓤 H A W w64) n _ (refl, n-fits) $ move ! (1 ∷ 0 ∷ []) $ use2 W (‵ (reader-row κs .own moved (T′.lowered moved ∷ []))) (own-put 𝓤 H A W (reader-type κs) (reader-laws κs) 2 vd n mach) $
+          nothing ! $ move ! (1 ∷ 0 ∷ []) $ fjoin ! $ owned ! S.the-row (Is S.the-row) (EL.makes S.the-type S′.the-plain 𝓤 H A) r _ r-is $ fjoin ! $ by ! (own-shut 𝓤 H A W (step-type κs) (step-laws κs) (r, (moved, tt)))
 
   module _ (C : Calls 𝓤 H) (Λ : Loops 𝓤 H) (fm : FmC 𝓤 H (W .laws) C) (known : Triple 𝓤 (C #stand·changed-step) (Callee 𝓤 H A mem run)) (known′ : Triple 𝓤 (C #stand·next-after) (After 𝓤 H A mem run)) where
     walk : ent 𝓤 (onEntry 𝓤 H A step.signature κs qs a at) (WpFn 𝓤 H C Λ code.function (mach ∷ Hd′.lowered v ∷ []) Post)
     walk =
-        let wt = LL.lawful (D κs) (L κs) 𝓤 H A W .typed d _ d-is .0 in
+        let wt = LL.lawful (reader-type κs) (reader-laws κs) 𝓤 H A W .typed d _ d-is .0 in
         qed W (raw (onEntry 𝓤 H A step.signature κs qs a at) ∷ []) ∵ enter ! C Λ code.function (mach ∷ Hd′.lowered v ∷ []) _ $
         alloc1 ! (λ l₀. alloc1 ! (λ l₁. alloc1 ! (λ l₂. alloc1 ! (λ l₃. alloc1 ! (λ l₄. alloc1 ! (λ l₅. alloc1 ! (λ l₆. alloc1 ! (λ l₇. alloc1 ! (λ l₈. alloc1 ! (λ l₉. alloc1 ! (λ l₁₀. alloc1 ! (λ l₁₁. alloc0 ! $ params1 ! $ pass1 ! (init ! 20 refl wt) $ pass1 ! (init ! 18 refl (LL.lawful Hd.the-type Hd′.the-laws 𝓤 H A W .typed v _ was .0)) $ pass0 ! $
         -- [_11; …; room for _0; …; the entry]: _i at 22 - 2i
@@ -248,7 +229,7 @@ module _ {M : Type 1} (𝓤 : URA M) (H : Heap 𝓤) (A : Atoms 𝓤) (W : Given
         assigns ! (of-opd ! (load ! (from ! (fld ! refl (stop !))) (look-in ! 22 (sub ! 0 refl (whole !))))) (from ! (stop !)) (init ! 6 refl (tt, wt .1 .0)) $
         assigns ! (of-opd ! (load ! (from ! (fld ! refl (stop !))) (look-in ! 22 (sub ! 1 refl (whole !))))) (from ! (stop !)) (init ! 4 refl (tt, wt .1 .1 .0)) $
         assigns ! (agg ! (and-then ! (load ! (from ! (stop !)) (look ! 6 refl)) (and-then ! (load ! (from ! (stop !)) (look ! 4 refl)) (and-then ! (load ! (from ! (stop !)) (look ! 16 refl)) (no-more !))))) (from ! (stop !)) (init ! 2 refl (tt, (wt .1 .0, (wt .1 .1 .0, (record { fits = is′ .1 }, tt))))) $
-        assigns ! (agg ! (and-then ! (load ! (from ! (stop !)) (look ! 18 refl)) (and-then ! (load ! (from ! (stop !)) (look ! 2 refl)) (no-more !)))) (from ! (stop !)) (init ! 24 refl (LL.lawful (D′ κs) (L′ κs) 𝓤 H A W .typed (result r (found-is r u is) n (is′ .1)) _ (result-is r (found-is r u is) n (is′ .1)) .0)) $
+        assigns ! (agg ! (and-then ! (load ! (from ! (stop !)) (look ! 18 refl)) (and-then ! (load ! (from ! (stop !)) (look ! 2 refl)) (no-more !)))) (from ! (stop !)) (init ! 24 refl (LL.lawful (step-type κs) (step-laws κs) 𝓤 H A W .typed (result r (found-is r u is) n (is′ .1)) _ (result-is r (found-is r u is) n (is′ .1)) .0)) $
         returns ! (look ! 24 refl) $ forget ! 2 refl $ forget ! 4 refl $ forget ! 6 refl $ forget ! 8 refl $ forget ! 10 refl $ forget ! 12 refl $ forget ! 14 refl $ forget ! 16 refl $ forget ! 18 refl $ forget ! 20 refl $ forget ! 22 refl $ forget ! 24 refl $
         move ! (24 ∷ 25 ∷ []) $ free1 ! $ move ! (22 ∷ 23 ∷ []) $ free1 ! $ move ! (20 ∷ 21 ∷ []) $ free1 ! $ move ! (18 ∷ 19 ∷ []) $ free1 ! $ move ! (16 ∷ 17 ∷ []) $ free1 ! $ move ! (14 ∷ 15 ∷ []) $ free1 ! $ move ! (12 ∷ 13 ∷ []) $ free1 ! $ move ! (10 ∷ 11 ∷ []) $ free1 ! $ move ! (8 ∷ 9 ∷ []) $ free1 ! $ move ! (6 ∷ 7 ∷ []) $ free1 ! $ move ! (4 ∷ 5 ∷ []) $ free1 ! $ move ! (2 ∷ 3 ∷ []) $ free1 ! $ free0 ! $
         by ! (exits r (found-is r u is) n (is′ .1) e e′)))))))))))))))))))))
@@ -256,13 +237,13 @@ module _ {M : Type 1} (𝓤 : URA M) (H : Heap 𝓤) (A : Atoms 𝓤) (W : Given
 module _ {M : Type 1} (𝓤 : URA M) (H : Heap 𝓤) (A : Atoms 𝓤) (W : Given 𝓤 H A) (mem : Memory → SProp 𝓤) (run : Routine → Fun 𝓤) where
   step-walks : (C : Calls 𝓤 H) (Λ : Loops 𝓤 H) → FmC 𝓤 H (W .laws) C → Triple 𝓤 (C #stand·changed-step) (Callee 𝓤 H A mem run) → Triple 𝓤 (C #stand·next-after) (After 𝓤 H A mem run)
       → Walks 𝓤 H A step.ended stayed (WpFn 𝓤 H C Λ code.function) (step.clauses 𝓤 H A mem run)
-  step-walks C Λ fm known known′ = walked 𝓤 H A step.ended stayed (step.clauses 𝓤 H A mem run) (WpFn 𝓤 H C Λ code.function) (λ κs. (LL.vals (D κs) (L κs), (LL.vals Hd.the-type Hd′.the-laws, tt))) (λ κs. (LL.tells (D κs) (L κs), (LL.tells Hd.the-type Hd′.the-laws, tt)))
+  step-walks C Λ fm known known′ = walked 𝓤 H A step.ended stayed (step.clauses 𝓤 H A mem run) (WpFn 𝓤 H C Λ code.function) (λ κs. (LL.vals (reader-type κs) (reader-laws κs), (LL.vals Hd.the-type Hd′.the-laws, tt))) (λ κs. (LL.tells (reader-type κs) (reader-laws κs), (LL.tells Hd.the-type Hd′.the-laws, tt)))
       (λ κs qs bounds a g are. via 𝓤 _ (fst∗ 𝓤 _ (emp 𝓤)) (walk 𝓤 H A W mem run (κs .0) (κs .1 .0) (qs .0) (qs .1 .0) (a .0) (a .1 .0) (are .0) (are .1 .0) C Λ fm known known′))
 
 step-meets : {M : Type 1} (𝓤 : URA M) (H : Heap 𝓤) (A : Atoms 𝓤) (W : Given 𝓤 H A) (mem : Memory → SProp 𝓤) (run : Routine → Fun 𝓤) (𝓣 : Tables 𝓤 H)
     → Triple 𝓤 (𝓣 .C #stand·changed-step) (Callee 𝓤 H A mem run) → Triple 𝓤 (𝓣 .C #stand·next-after) (After 𝓤 H A mem run)
     → Meets 𝓤 H A step.signature (WpFn 𝓤 H (𝓣 .C) (𝓣 .Λ) code.function) (step.spec 𝓤 H A mem run)
-step-meets 𝓤 H A W mem run 𝓣 known known′ = walk-meets 𝓤 H A step.ended stayed W (goes-none 𝓤 H A W 2 B yes (λ κs x f. refl), (goes-none 𝓤 H A W 2 (λ _. Hd.the-row) yes (λ κs x f. refl), tt)) (step.clauses 𝓤 H A mem run) (WpFn 𝓤 H (𝓣 .C) (𝓣 .Λ) code.function) (WpFn-mono 𝓤 H (W .laws) 𝓣 code.function)
+step-meets 𝓤 H A W mem run 𝓣 known known′ = walk-meets 𝓤 H A step.ended stayed W (goes-none 𝓤 H A W 2 reader-row yes (λ κs x f. refl), (goes-none 𝓤 H A W 2 (λ _. Hd.the-row) yes (λ κs x f. refl), tt)) (step.clauses 𝓤 H A mem run) (WpFn 𝓤 H (𝓣 .C) (𝓣 .Λ) code.function) (WpFn-mono 𝓤 H (W .laws) 𝓣 code.function)
     (step-walks 𝓤 H A W mem run (𝓣 .C) (𝓣 .Λ) (fmOf 𝓤 H (W .laws) 𝓣) known known′)
 
 pub step-spec : {M : Type 1} → stated.statement M
