@@ -1,6 +1,7 @@
 -- The calls that are given some of the four and write none: document 01, 'The book behind the sums'.
 -- Each is a name here; its arguments, mask and panel list are any, and what it answers is its contract's. The reader
--- `ChangedChunks` and the walk `Solids` step as stepFrom and solidFrom. One that is given none of the four needs no name.
+-- `ChangedChunks` and the walk `Solids` step as stepFrom and solidFrom; `walk_changed` is walkFrom, its list apart from the
+-- four. One that is given none of the four needs no name.
 pub data Reading : Type 0 where
   origin : Reading
   chunks : Reading
@@ -21,6 +22,7 @@ pub data Reading : Type 0 where
   digest : Reading
   changedFrom : Reading
   stepFrom : Reading
+  walkFrom : Reading
   solidFrom : Reading
   faces : Reading
   chunkFaces : Reading
