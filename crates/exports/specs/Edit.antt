@@ -27,11 +27,12 @@ abbrev pub openReply : Opening → Wrote Opened
 openReply o = wroteOf (repliedHeader (o .answer)) (o .storage)
 
 -- the cells changed, and the header after the edit
-abbrev pub numbered : Number → Volume → Edited
-numbered n v = record { code = n .code; changed = n .value; volume = v }
+abbrev pub repliedEdit : Answer ℕ → Volume → Edited
+repliedEdit (gives n) v = record { code = 0; changed = n; volume = v }
+repliedEdit (refused c) v = record { code = c; changed = 0; volume = v }
 
 abbrev pub editReply : Outcome ℕ → Wrote Edited
-editReply o = wroteOf (numbered (replied (o .answer)) (o .state .volume)) (storage (o .state))
+editReply o = wroteOf (repliedEdit (o .answer) (o .state .volume)) (storage (o .state))
 
 -- ---- over a header that is lent: C's number, and header and lists after the call
 

@@ -1,18 +1,17 @@
 // Opening, setting and filling.
 ghost use mathlib.Core.Path.{_≡_};
-ghost use Rattle.stand.specs.Answer.{volumeAnswer};
+ghost use Rattle.stand.specs.Answer.{numberAnswer, setAnswer, volumeAnswer};
 ghost use Rattle.stand.specs.Edit.{setCall};
 ghost use Rattle.stand.specs.Fill.{fillCall};
 ghost use Rattle.stand.specs.Opening.{headerCall, openCall};
 ghost use Rattle.stand.specs.Storage.{stateOf, storageOf};
-ghost use Rattle.exports.specs.Edit.{editReply, noVolume, numbered, openReply, repliedHeader, wroteOf};
-use crate::reply::Number;
-use crate::reply::changed_reply;
-use crate::reply::number_reply;
+ghost use Rattle.exports.specs.Edit.{editReply, noVolume, openReply, repliedEdit, repliedHeader, wroteOf};
 use stand::Cell;
 use stand::Voxel;
 use stand::volume::Extent;
 use stand::volume::Volume;
+use stand::volume::answer::NumberAnswer;
+use stand::volume::answer::SetAnswer;
 use stand::volume::answer::VolumeAnswer;
 use stand::volume::opening::header;
 
@@ -57,13 +56,42 @@ fn open_reply(a: VolumeAnswer) -> Opened
     }
 }
 
-fn edit_reply(n: Number, volume: Volume) -> Edited
-    ensures { λ r. ⌜ r ≡ numbered n volume ⌝ }
+fn set_reply(a: SetAnswer, volume: Volume) -> Edited
+    ensures { λ r. ⌜ r ≡ repliedEdit (setAnswer a) volume ⌝ }
 {
-    Edited {
-        code: n.code,
-        changed: n.value,
-        volume,
+    match a {
+        SetAnswer::Changed => Edited {
+            code: 0,
+            changed: 1,
+            volume,
+        },
+        SetAnswer::Unchanged => Edited {
+            code: 0,
+            changed: 0,
+            volume,
+        },
+        SetAnswer::Refused(code) => Edited {
+            code,
+            changed: 0,
+            volume,
+        },
+    }
+}
+
+fn fill_reply(a: NumberAnswer, volume: Volume) -> Edited
+    ensures { λ r. ⌜ r ≡ repliedEdit (numberAnswer a) volume ⌝ }
+{
+    match a {
+        NumberAnswer::Is(changed) => Edited {
+            code: 0,
+            changed,
+            volume,
+        },
+        NumberAnswer::Refused(code) => Edited {
+            code,
+            changed: 0,
+            volume,
+        },
     }
 }
 
@@ -108,7 +136,7 @@ pub extern "C" fn stand_set(
     let done = volume.set(cells, hashes, versions, log, last, cell, Voxel(finish));
     let answer = done.answer;
     let after = done.volume;
-    edit_reply(changed_reply(answer), after)
+    set_reply(answer, after)
 }
 
 // Gives every cell of a box a finish. Rules out a count of the box instead of the cells changed, and another header than the last one.
@@ -129,5 +157,5 @@ pub extern "C" fn stand_fill(
     let done = volume.fill(cells, hashes, versions, log, last, from, to, Voxel(finish));
     let answer = done.answer;
     let after = done.volume;
-    edit_reply(number_reply(answer), after)
+    fill_reply(answer, after)
 }

@@ -3,12 +3,10 @@ ghost use mathlib.Core.Path.{_≡_};
 ghost use Rattle.stand.specs.Edit.{setCall};
 ghost use Rattle.stand.specs.Storage.{stateOf};
 ghost use Rattle.exports.specs.Edit.{lentOf, lentReply};
+use crate::edit::stand_set;
 use crate::reply::Number;
-use crate::reply::changed_reply;
 use stand::Cell;
-use stand::Voxel;
 use stand::volume::Volume;
-use stand::volume::lent::set_lent;
 
 // Gives a cell a finish and alters the header where it is. Rules out a header that keeps its generation, and one altered by a refused call.
 #[no_mangle]
@@ -24,15 +22,10 @@ pub extern "C" fn stand_set_lent(
 ) -> Number
     ensures { λ r. ⌜ lentOf r (stateOf (now (volume .exit)) (now (cells .exit)) (now (hashes .exit)) (now (versions .exit)) (now (log .exit)) (now (last .exit))) ≡ lentReply (setCall (stateOf (now (volume .entry)) (now (cells .entry)) (now (hashes .entry)) (now (versions .entry)) (now (log .entry)) (now (last .entry))) cell finish) ⌝ }
 {
-    let answer = set_lent(
-        volume,
-        cells,
-        hashes,
-        versions,
-        log,
-        last,
-        cell,
-        Voxel(finish),
-    );
-    changed_reply(answer)
+    let done = stand_set(*volume, cells, hashes, versions, log, last, cell, finish);
+    *volume = done.volume;
+    Number {
+        code: done.code,
+        value: done.changed,
+    }
 }

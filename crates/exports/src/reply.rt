@@ -1,6 +1,6 @@
 // Answers as C gets them: a code, 0 for accepted, and the value; a refused answer has 0 in all else.
 ghost use mathlib.Core.Path.{_≡_};
-ghost use Rattle.stand.specs.Answer.{boolAnswer, cellAnswer, extentAnswer, numberAnswer, setAnswer, voxelAnswer};
+ghost use Rattle.stand.specs.Answer.{boolAnswer, cellAnswer, extentAnswer, numberAnswer, voxelAnswer};
 ghost use Rattle.exports.specs.Reply.{replied, repliedCell, repliedExtent, repliedFlag};
 use stand::Cell;
 use stand::volume::Extent;
@@ -8,7 +8,6 @@ use stand::volume::answer::BoolAnswer;
 use stand::volume::answer::CellAnswer;
 use stand::volume::answer::ExtentAnswer;
 use stand::volume::answer::NumberAnswer;
-use stand::volume::answer::SetAnswer;
 use stand::volume::answer::VoxelAnswer;
 
 // A number.
@@ -38,17 +37,6 @@ pub(crate) fn number_reply(a: NumberAnswer) -> Number
     match a {
         NumberAnswer::Is(value) => Number { code: 0, value },
         NumberAnswer::Refused(code) => Number { code, value: 0 },
-    }
-}
-
-// The cells that a set changed, 1 or 0.
-pub(crate) fn changed_reply(a: SetAnswer) -> Number
-    ensures { λ r. ⌜ r ≡ replied (setAnswer a) ⌝ }
-{
-    match a {
-        SetAnswer::Changed => Number { code: 0, value: 1 },
-        SetAnswer::Unchanged => Number { code: 0, value: 0 },
-        SetAnswer::Refused(code) => Number { code, value: 0 },
     }
 }
 

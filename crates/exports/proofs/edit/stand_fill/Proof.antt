@@ -7,11 +7,8 @@ use Rattle.exports.proofs.edit.stand_fill.Tie as tie
 fill-requires : tie.Need-fill-requires
 fill-requires c κs = search needs
 
-number-reply-requires : tie.Need-number-reply-requires
-number-reply-requires c κs = search needs
-
-edit-reply-requires : tie.Need-edit-reply-requires
-edit-reply-requires c κs = search needs
+fill-reply-requires : tie.Need-fill-reply-requires
+fill-reply-requires c κs = search needs
 
 same-length : tie.Need-same-length
 same-length c = search needs
@@ -29,15 +26,14 @@ same-length-5 : tie.Need-same-length-5
 same-length-5 c = search needs
 
 returns : tie.Need-returns
-returns c = edited-so (c .before .before .before .before .before .before .before .before .before .before .before .before .before .fill .ensures) (c .before .number-reply .ensures) (c .edit-reply .ensures)
+returns c = edited-so (c .before .before .before .before .before .before .before .before .before .before .before .before .fill .ensures) (c .fill-reply .ensures)
 
 pub stand-fill-spec : {M : Type 1} → statement M
 stand-fill-spec =
     tie.close
     (tie.spec
     fill-requires
-    number-reply-requires
-    edit-reply-requires
+    fill-reply-requires
     same-length
     same-length-2
     same-length-3

@@ -7,11 +7,8 @@ use Rattle.exports.proofs.edit.stand_set.Tie as tie
 set-requires : tie.Need-set-requires
 set-requires c κs = search needs
 
-changed-reply-requires : tie.Need-changed-reply-requires
-changed-reply-requires c κs = search needs
-
-edit-reply-requires : tie.Need-edit-reply-requires
-edit-reply-requires c κs = search needs
+set-reply-requires : tie.Need-set-reply-requires
+set-reply-requires c κs = search needs
 
 same-length : tie.Need-same-length
 same-length c = search needs
@@ -29,15 +26,14 @@ same-length-5 : tie.Need-same-length-5
 same-length-5 c = search needs
 
 returns : tie.Need-returns
-returns c = edited-so (c .before .before .before .before .before .before .before .before .before .before .before .before .before .set .ensures) (c .before .changed-reply .ensures) (c .edit-reply .ensures)
+returns c = edited-so (c .before .before .before .before .before .before .before .before .before .before .before .before .set .ensures) (c .set-reply .ensures)
 
 pub stand-set-spec : {M : Type 1} → statement M
 stand-set-spec =
     tie.close
     (tie.spec
     set-requires
-    changed-reply-requires
-    edit-reply-requires
+    set-reply-requires
     same-length
     same-length-2
     same-length-3

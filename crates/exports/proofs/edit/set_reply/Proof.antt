@@ -1,7 +1,7 @@
--- `exports::reply::changed_reply` meets its contract.
+-- `exports::edit::set_reply` meets its contract.
 use borrow.Author.Needs.{needs}
-use Rattle.exports.proofs.reply.changed_reply.Statement.{statement}
-use Rattle.exports.proofs.reply.changed_reply.Tie as tie
+use Rattle.exports.proofs.edit.set_reply.Statement.{statement}
+use Rattle.exports.proofs.edit.set_reply.Tie as tie
 
 enum-told : tie.Need-enum-told
 enum-told c = search needs
@@ -21,6 +21,6 @@ returns-2 c = rw (c .enum-told2 .given .1)
 returns-3 : tie.Need-returns-3
 returns-3 c = rw (c .before .a .given .1)
 
-pub changed-reply-spec : {M : Type 1} → statement M
-changed-reply-spec =
+pub set-reply-spec : {M : Type 1} → statement M
+set-reply-spec =
     tie.close (tie.spec enum-told enum-told-2 enum-known-a returns returns-2 returns-3)
