@@ -35,6 +35,7 @@ across (suc (suc n)) k u v = pointOf u v k
 
 -- ---- the eight numbers of a panel, by axes x
 
+-- those of a side
 pub record AxesOf (x : Axes) : Type 0 where
   pub side : ℕ
   pub known : side < 6
@@ -44,6 +45,7 @@ pub record AxesOf (x : Axes) : Type 0 where
 unfoldable pub alongAxes : Axes → ℕ → ℤ → ℤ → ℤ → ℤ
 alongAxes x a k u v = cond (eqb a (x .normal)) k (cond (eqb a (x .first)) u v)
 
+-- cell, side, finish, extents
 unfoldable pub eight : Axes → ℤ → ℤ → ℤ → ℤ → ℤ → ℤ → ℤ → List ℤ
 eight x k u v side finish run rows =
     alongAxes x 0 k u v ∷ alongAxes x 1 k u v ∷ alongAxes x 2 k u v
