@@ -1,15 +1,16 @@
 -- Laws of the claiming functions' loops: what holds after n turns, a turn more, and at the end.
-use mathlib.Core.Path.{_≡_, refl, sym, ap, _∙_}
+use mathlib.Core.Path.{_≡_, refl, sym, ap, subst, _∙_}
 use mathlib.Core.List.{List}
+use mathlib.Core.Logic.{⊎-elim}
 use Prim.Native.Nat.{ℕ, zero, suc, _+_, _*_, _-_, _≤_, _<_}
-use native.Mathlib.Nat.{add-zero, add-mul, le-refl}
+use native.Mathlib.Nat.{add-zero, add-mul, eq-or-lt-of-le, le-refl}
 use native.Mathlib.Numerals.{add-one}
 use native.Mathlib.Omega.{arith}
 use borrow.Author.Count.{below-more}
 use lib.ListN.{getD, set, length}
 use lib.Seq.{getD-set-other, set-set}
 use Rattle.mesh.specs.Scan.{runLen, rowsLen, clearRun, clearRect, place, slot, rectAt, clearOf}
-use Rattle.mesh.specs.Claims.{TakePre, TakePost, RowsPre, RowsPost, ClaimPre, ClaimPost, NextSeen}
+use Rattle.mesh.specs.Claims.{TakePre, TakePost, RowsPre, RowsPost, ClaimPre, ClaimPost, Blank, NextSeen}
 use Rattle.mesh.proofs.Upto.{row-fits}
 use Rattle.mesh.proofs.Runs.{run-is, run-alike, run-most, run-pass, run-stop, rows-is, rows-first, run-later, rect-later, clear-first, length-clearRun, length-clearRect}
 
@@ -162,6 +163,46 @@ module _ {m : List ℕ} {w h u v at x : ℕ} (p : ClaimPre m w h u v at x) where
       let e : x ≡ slot w m u v = sym (p .holds) ∙ ap (λ (i : ℕ). getD m i 0) (p .here) in
       done m w h u v (p .first) (p .second) (rw (p .here, e) at a) (rw (p .here, e) at b)
 
+  -- one row, where there is no row after it or that row's first slot holds another number
+  pub claim-one : {m₁ : List ℕ} {run : ℕ} → TakePost m m₁ at (w - u) x run → (0 < h - v - 1 → getD m₁ (at + w) 0 ≡ x → ⊥)
+      → ClaimPost m m₁ w h u v (record { run = run; rows = 1 })
+  claim-one {m₁} {run} a end =
+      let lo = a .low in
+      let hi = a .high in
+      let z : at + w + 0 * w + 0 ≡ at + w = omega arith in
+      claim-done a
+      (rows-taken (rows-start m₁ w (at + w) run (h - v - 1) x) (omega arith)
+      (λ l e. end l (rw z at (run-pass m₁ (at + w + 0 * w) run x 0 (omega (arith, e))))))
+
+-- ---- slots that are 0
+
+pub blank-start : {m : List ℕ} {from n : ℕ} → from ≤ n → Blank m from n from
+blank-start l = record { low = le-refl _; high = l; passed = λ i lo hi. absurd (omega arith) }
+
+pub blank-wide : {m : List ℕ} {from n n′ q : ℕ} → n ≤ n′ → Blank m from n q → Blank m from n′ q
+blank-wide l b = record { low = b .low; high = omega (arith, b .high); passed = b .passed }
+
+pub blank-kept : {m m′ : List ℕ} {from n q : ℕ} → ((i : ℕ) → getD m i 0 ≡ 0 → getD m′ i 0 ≡ 0) → Blank m from n q → Blank m′ from n q
+blank-kept k b = record { low = b .low; high = b .high; passed = λ i lo hi. k i (b .passed i lo hi) }
+
+-- one slot more, before the others
+pub blank-front : {m : List ℕ} {from k n q : ℕ} → k ≡ suc from → getD m from 0 ≡ 0 → Blank m k n q → Blank m from n q
+blank-front {m} e z b =
+    record {
+      low = omega (arith, b .low);
+      high = b .high;
+      passed = λ i lo hi. ⊎-elim (λ d. subst (λ (j : ℕ). getD m j 0 ≡ 0) d z) (λ l. b .passed i (omega arith) hi) (eq-or-lt-of-le lo);
+    }
+
+-- one slot more, after the others
+pub blank-more : {m : List ℕ} {from n q : ℕ} → q < n → getD m q 0 ≡ 0 → Blank m from n q → Blank m from n (q + 1)
+blank-more {m} {q = q} l z b =
+    record {
+      low = omega (arith, b .low);
+      high = omega arith;
+      passed = λ i lo hi. let k : i ≤ q = omega arith in ⊎-elim (λ d. subst (λ (j : ℕ). getD m j 0 ≡ 0) (sym d) z) (b .passed i lo) (eq-or-lt-of-le k);
+    }
+
 -- ---- next_seen
 
 pub next-seen : (m : List ℕ) (from n r : ℕ) → from < n → r ≡ runLen m from (n - from) 0 → NextSeen m from n (from + r)
@@ -173,4 +214,14 @@ next-seen m from n r l e =
       past = λ k. absurd (omega arith);
       passed = λ i lo hi. let b : from + (i - from) ≡ i = omega arith in rw b at (run-pass m from (n - from) 0 (i - from) (omega arith));
       seen = λ k z. run-stop m from (n - from) 0 (omega arith) (rw e at z);
+    }
+
+pub next-none : {m : List ℕ} {from n : ℕ} → from < n → from ≡ 0 → Blank m 0 n n → NextSeen m from n n
+next-none l e b =
+    record {
+      low = omega arith;
+      high = λ _. omega arith;
+      past = λ k. absurd (omega arith);
+      passed = λ i lo hi. b .passed i (omega arith) hi;
+      seen = λ k. absurd (omega arith);
     }

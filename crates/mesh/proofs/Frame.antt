@@ -10,7 +10,7 @@ use borrow.Author.Tests.{eqb-true, eqb-false, eq-eqb, ne-eqb, le-ltb, lt-ltb}
 use borrow.Rule.Slice.PartMut.{mid-len, midOf, post-is, putMid}
 use lib.Dec.{eqb}
 use lib.IntN.{ℤ, pos, _+ℤ_}
-use lib.ListN.{drop, length, length-append, length-map, take}
+use lib.ListN.{drop, getD, length, length-append, length-map, take}
 use lib.Seq.{sets-eq}
 use mir.Syntax.{w32}
 use mir.Val.{SFits}
@@ -22,7 +22,7 @@ use Rattle.stand.specs.Sides.{axesAt, firstAt, normalAt, secondAt, sideNumber}
 use Rattle.stand.specs.Storage.{extentOf}
 use Rattle.stand.specs.declared.volume.shape.Region.{Region}
 use Rattle.mesh.specs.Axes.{alongAxes, eight}
-use Rattle.mesh.specs.Claims.{ClaimPost}
+use Rattle.mesh.specs.Claims.{Blank, ClaimPost}
 use Rattle.mesh.specs.Cover.{Each}
 use Rattle.mesh.specs.Frame.{Lies, StepPost, Wrote, alongFrame, frameOf, nextAt, quadFrom, rectOf}
 use Rattle.mesh.specs.Merge.{Cuts, cutTo, limits, total}
@@ -34,7 +34,7 @@ use Rattle.mesh.specs.declared.Quad.{Quad}
 use Rattle.mesh.specs.declared.claim.Claim.{Claim}
 use Rattle.mesh.specs.declared.scan.Frame.{Frame}
 use Rattle.mesh.specs.declared.scan.Turn.{Turn}
-use Rattle.mesh.proofs.Scanned.{Fits, asBox, row-jump, row-skip, scan-fits, scan-same, step-claim, step-skip}
+use Rattle.mesh.proofs.Scanned.{Fits, asBox, row-jump, row-skip, row-skips, scan-fits, scan-same, step-claim, step-skip}
 
 -- ---- a panel's numbers
 
@@ -192,6 +192,22 @@ module _ {f : Frame} (m₀ : List ℕ) {m m′ : List ℕ} {out₀ out out′ : 
       let e : after t (rowTo w h v (fresh m) w) ≡ rowTo w h v t w =
       ap (λ (l : List ℕ). after t (rowTo w h v (fresh l) w)) (a .mask) ∙ sym (row-after w h v t w) in
       rw add-one (subst (λ (s : State). Wrote f s m′ out₀ out′ n₀ r) e (wrote-after a b))
+
+-- slots that are 0 are passed
+pub row-on : {f : Frame} (m₀ : List ℕ) {m : List ℕ} {out₀ out : List ℤ} {n₀ n : ℕ} (v u r : ℕ) {row end : ℕ} → row ≡ v * f .width → Blank m (row + u) end (row + r)
+    → Wrote f (rowTo (f .width) (f .height) v (fresh m₀) u) m out₀ out n₀ n
+    → Wrote f (rowTo (f .width) (f .height) v (fresh m₀) r) m out₀ out n₀ n
+row-on {f} m₀ {m} {out₀} {out} {n₀} {n} v u r e b a =
+    let w = f .width in
+    let h = f .height in
+    let d : u + (r - u) ≡ r = omega (arith, b .low) in
+    let blank : (i : ℕ) → i < r - u → slot w (rowTo w h v (fresh m₀) u .mask) (u + i) v ≡ 0 =
+    λ i y.
+    ap (λ (l : List ℕ). getD l (v * w + (u + i)) 0) (sym (a .mask))
+    ∙ ap (λ (k : ℕ). getD m (k + (u + i)) 0) (sym e)
+    ∙ b .passed _ (omega arith) (omega arith) in
+    let s = sym (row-skips w h v (fresh m₀) u (r - u) blank) ∙ ap (rowTo w h v (fresh m₀)) d in
+    subst (λ (t : State). Wrote f t m out₀ out n₀ n) s a
 
 -- what a slot gives: nothing, or its rectangle
 module _ {f : Frame} {u v : ℕ} (lu : u < f .width) (m : List ℕ) (out : List ℤ) (count : ℕ) where

@@ -59,8 +59,8 @@ laid-one {m} {m′} {to} {p} {q} l = record {
 pub row-below : (p v n : ℕ) → v < n → v * p + p ≤ n * p
 row-below p v n l = omega (arith, suc-mul v p, mul-le-mul-right p l)
 
-order : (v n : ℕ) → (v < n) ⊎ (n ≤ v)
-order v n = go (ltb v n) refl
+pub lt-or-le : (v n : ℕ) → (v < n) ⊎ (n ≤ v)
+lt-or-le v n = go (ltb v n) refl
   where
     go : (b : Bool) → ltb v n ≡ b → (v < n) ⊎ (n ≤ v)
     go true e = inl (ltb-true v n e)
@@ -68,7 +68,7 @@ order v n = go (ltb v n) refl
 
 -- an index below a sum is below its first part, or what is left of it below the second
 part : {n k v : ℕ} → v < n + k → (v < n) ⊎ ((n + (v - n) ≡ v) × (v - n < k))
-part {n} {k} {v} l = ⊎-elim (λ y. inl y) (λ y. inr (omega arith, omega arith)) (order v n)
+part {n} {k} {v} l = ⊎-elim (λ y. inl y) (λ y. inr (omega arith, omega arith)) (lt-or-le v n)
 
 module _ {to pitch w n k : ℕ} {f : ℕ → ℕ → ℕ} where
   pub laid-below : {m m′ m″ : List ℕ} → w ≤ pitch → Laid m m′ to pitch w n f → Laid m′ m″ (to + n * pitch) pitch w k (λ u v. f u (n + v)) → Laid m m″ to pitch w (n + k) f
@@ -100,7 +100,7 @@ apart to pitch n k u v u′ v′ s a b p =
     ⊎-elim
     (λ y. omega (arith, row-below pitch v v′ y))
     (λ y. ⊎-elim (λ z. let e = ap (λ (i : ℕ). i * pitch) z in omega arith) (λ z. omega (arith, row-below pitch v′ v z)) (eq-or-lt-of-le y))
-    (order v v′)
+    (lt-or-le v v′)
 
 module _ {h n k : ℕ} {f : ℕ → ℕ → ℕ} where
   pub laid-beside : {m m′ m″ : List ℕ} {to pitch : ℕ} → n + k ≤ pitch → Laid m m′ to pitch n h f → Laid m′ m″ (to + n) pitch k h (λ u v. f (n + u) v) → Laid m m″ to pitch (n + k) h f

@@ -24,6 +24,7 @@ pub mod Shown
 pub mod Slices
 pub mod Slicing
 pub mod Step
+pub mod Stretches
 pub mod Tables
 pub mod Tiling
 pub mod Upto

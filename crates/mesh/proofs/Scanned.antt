@@ -11,7 +11,7 @@ use lib.ListN.{getD, length, length-append}
 use Rattle.mesh.specs.Cover.{Each}
 use Rattle.mesh.specs.Merge.{Dir, Box, Cuts, full, all, grow, rep, clearBox, alike, boxAt, cut, cutTo, total, limits}
 use Rattle.mesh.specs.Scan.{Rect, State, fresh, place, slot, runLen, rowsLen, clearRun, clearRect, rectAt, clearOf, stepAt, rowTo, rowsTo, scan}
-use Rattle.mesh.proofs.Boxes.{clear-in}
+use Rattle.mesh.proofs.Boxes.{clear-in, clear-zero}
 use Rattle.mesh.proofs.Merged.{each-append, Parted, merged}
 use Rattle.mesh.proofs.Runs.{run-most, run-pass, run-some, rows-most, rows-some}
 
@@ -180,6 +180,14 @@ step-fits w h s u v lu lv a =
 pub scan-fits : (w h : ℕ) (m : List ℕ) → Each (Fits w h) (scan w h m .rects)
 unfolding scan
 scan-fits w h m = by-rows w h (λ s. Each (Fits w h) (s .rects)) (step-fits w h) (fresh m) tt h (omega arith)
+
+-- ---- a slot that is 0 stays so
+
+clear-keeps : (w : ℕ) (m : List ℕ) (r : Rect) (q : ℕ) → getD m q 0 ≡ 0 → getD (clearOf w m r) q 0 ≡ 0
+clear-keeps w m r q z = rw (claim-same w m r) at (clear-zero (asBox w r .dirs) (place w (r .u) (r .v)) q m z)
+
+pub step-keeps : (w h : ℕ) (s : State) (u v q : ℕ) → getD (s .mask) q 0 ≡ 0 → getD (stepAt w h s u v .mask) q 0 ≡ 0
+step-keeps w h s u v q z = by-step w h s u v (λ t. getD (t .mask) q 0 ≡ 0) z (λ n. clear-keeps w (s .mask) (rectAt w h (s .mask) u v) q z)
 
 -- ---- how many so far: a loop that counts them
 

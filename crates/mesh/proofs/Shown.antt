@@ -3,7 +3,7 @@ use mathlib.Core.Path.{_≡_, refl, sym, ap, _∙_}
 use mathlib.Core.Bool.{Bool, true, false, cond}
 use mathlib.Core.List.{List}
 use mathlib.Core.Logic.{_⊎_, inl, inr}
-use Prim.Native.Nat.{ℕ, zero, suc, _+_, _-_, _*_, _<_}
+use Prim.Native.Nat.{ℕ, zero, suc, _+_, _-_, _*_, _<_, _≤_}
 use native.Mathlib.Omega.{arith}
 use borrow.Author.Tests.{ne-eqb}
 use lib.ListN.{drop, getD, length, length-drop, take}
@@ -101,6 +101,14 @@ steps-are q e r =
       first = (λ j. r j .first) ∙ (λ j. strideOn (e j .first));
       second = (λ j. r j .second) ∙ (λ j. strideOn (e j .second));
     }
+
+stride-le : (a : ℕ) → strideOn a ≤ 256
+stride-le zero = omega arith
+stride-le (suc zero) = omega arith
+stride-le (suc (suc a)) = omega arith
+
+pub first-le : {g : Shape} {i s w h a b d : ℕ} → Steps g i s w h a b d → b ≤ 256
+first-le {s = s} e = rw (e .first) (stride-le (firstAt s))
 
 module _ {g : Shape} {cells mask : List ℕ} {c : Section} {i s k to pitch : ℕ} (q : SliceIn g cells mask c i s k to pitch) {w h a b d : ℕ} (e : Steps g i s w h a b d) where
   pub slice-lt : k < 16

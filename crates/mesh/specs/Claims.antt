@@ -47,6 +47,12 @@ pub record ClaimPost (m m′ : List ℕ) (w h u v : ℕ) (r : Claim) : Type 0 wh
   pub wide : u + r .run ≤ w
   pub high : v + r .rows ≤ h
 
+-- q is `from` at least and n at most, and the slots from `from` on, below q, are 0
+pub record Blank (m : List ℕ) (from n q : ℕ) : Type 0 where
+  pub low : from ≤ q
+  pub high : q ≤ n
+  pub passed : (i : ℕ) → from ≤ i → i < q → getD m i 0 ≡ 0
+
 -- q is the first from `from` on, below n, that is not 0; n, or `from` where that is no less, if there is none
 pub record NextSeen (m : List ℕ) (from n q : ℕ) : Type 0 where
   pub low : from ≤ q

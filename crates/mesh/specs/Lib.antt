@@ -15,5 +15,6 @@ pub mod Quad
 pub mod Scan
 pub mod Slice
 pub mod Step
+pub mod Stretch
 pub mod Tiles
 pub mod Visible

@@ -18,6 +18,7 @@ mod plane;
 mod scan;
 mod sides;
 pub mod slice;
+mod stretch;
 mod tiles;
 
 // What lies outside the stand: document 01's outside rule.

@@ -63,7 +63,8 @@ fn full_row(
     lay_row(mask, to, &row)
 }
 
-// A row of w cells that lie `step` apart.
+// A row of w cells that lie `step` apart. No branch on a cell, since in a random section its test goes either way. The last turn's step
+// is taken and not used, so it must fit.
 fn step_row(
     mask: &mut [u16],
     to: usize,
@@ -76,16 +77,22 @@ fn step_row(
 ) -> u16
     requires { ⌜ RowTo to w (length (now mask)) at step (length (now here)) ⌝ }
     requires { ⌜ RowIn beside step w (length (now next)) ⌝ }
+    requires { ⌜ step ≤ 256 ⌝ }
     ensures { λ r. ⌜ FilledRow (now (mask .entry)) (now (mask .exit)) r to w (seenRow (now (here .entry)) (now (next .entry)) at beside step) ⌝ }
 {
     let mut any: u16 = 0;
+    let mut p = at;
+    let mut q = beside;
     let mut u = 0;
     while u < w {
-        let a = here[at + u * step];
-        let b = next[beside + u * step];
-        let x = if b == 0 { a } else { 0 };
+        let a = here[p];
+        let b = next[q];
+        let keep: u16 = if b == 0 { 65535 } else { 0 };
+        let x = a & keep;
         mask[to + u] = x;
         any = any | x;
+        p += step;
+        q += step;
         u += 1;
     }
     any
@@ -103,6 +110,7 @@ fn fill_row(
 ) -> u16
     requires { ⌜ RowTo to w (length (now mask)) at step (length (now here)) ⌝ }
     requires { ⌜ RowIn beside step w (length (now next)) ⌝ }
+    requires { ⌜ step ≤ 256 ⌝ }
     ensures { λ r. ⌜ FilledRow (now (mask .entry)) (now (mask .exit)) r to w (seenRow (now (here .entry)) (now (next .entry)) at beside step) ⌝ }
 {
     if step == 1 {
@@ -126,6 +134,7 @@ pub(crate) fn fill_plane(
 ) -> u16
     requires { ⌜ PlaneTo to pitch (g .w) (g .h) (length (now mask)) at (g .first) (g .second) (length (now here)) ⌝ }
     requires { ⌜ PlaneIn beside (g .first) (g .second) (g .w) (g .h) (length (now next)) ⌝ }
+    requires { ⌜ g .first ≤ 256 ⌝ }
     ensures { λ r. ⌜ Filled (now (mask .entry)) (now (mask .exit)) r to pitch (g .w) (g .h) (seenPlane (now (here .entry)) (now (next .entry)) at beside (g .first) (g .second)) ⌝ }
 {
     let mut any: u16 = 0;

@@ -8,6 +8,9 @@ ghost use Rattle.mesh.specs.Frame.{PutPre, RowPre, ScanPost, ScanPre, St
 ghost use Rattle.mesh.specs.Quad.{putQuad};
 ghost use Rattle.mesh.specs.Scan.{fresh, rowTo};
 use crate::claim::claim_at;
+use crate::stretch::list_seen;
+use crate::stretch::seen_from;
+use crate::stretch::stretch_end;
 use arith::level::from_level;
 use stand::Axes;
 
@@ -101,7 +104,7 @@ fn put_quad(
     put8(panel, axes, a, b, c, s, x, n, m);
 }
 
-// What slot (u, v), at `at`, adds.
+// What slot (u, v), at `at`, adds: nothing where it is 0, which a list of what is seen does not rule out.
 fn step_at(
     mask: &mut [u16],
     f: Frame,
@@ -130,7 +133,8 @@ fn step_at(
     }
 }
 
-// Claims what starts in row v, the slots from `row` on. After a rectangle its run is left out: it is 0 now.
+// Claims what starts in row v, the slots from `row` on, and answers the next panel number. Slots that are 0 are passed over, and so
+// is the run of a rectangle: it is 0 now. `seen` is for the stretches, and may hold anything.
 fn scan_row(
     mask: &mut [u16],
     f: Frame,
@@ -138,16 +142,27 @@ fn scan_row(
     row: usize,
     out: &mut [i32],
     count: usize,
+    seen: &mut [usize; 16],
 ) -> usize
     requires { ⌜ RowPre (length (now mask)) f v row count ⌝ }
-    ensures { λ r. ⌜ Wrote f (rowTo (f .width) (f .height) v (fresh (now (mask .entry))) (f .width)) (now (mask .exit)) (now (out .entry)) (now (out .exit)) count r ⌝ }
+    requires { ⌜ length (now seen) ≡ 16 ⌝ }
+    ensures { λ r. ⌜ Wrote f (rowTo (f .width) (f .height) v (fresh (now (mask .entry))) (f .width)) (now (mask .exit)) (now (out .entry)) (now (out .exit)) count r × (length (now (seen .exit)) ≡ 16) ⌝ }
 {
     let mut n = count;
+    let mut from = 0;
+    let mut to = 0;
     let mut u = 0;
     while u < f.width {
-        let t = step_at(mask, f, u, v, row + u, out, n);
-        n = t.count;
-        u = t.next;
+        if to <= u {
+            from = u;
+            to = stretch_end(u, f.width);
+            list_seen(seen, mask, row, from, to);
+        } else {
+            let t = step_at(mask, f, u, v, row + u, out, n);
+            n = t.count;
+            u = t.next;
+        }
+        u = seen_from(seen, from, to, u);
     }
     n
 }
@@ -157,10 +172,11 @@ pub(crate) fn scan_mask(mask: &mut [u16], f: Frame, out: &mut [i32], count: usiz
     requires { ⌜ ScanPre (length (now mask)) f count ⌝ }
     ensures { λ r. ⌜ ScanPost f (now (mask .entry)) (now (mask .exit)) (now (out .entry)) (now (out .exit)) count r ⌝ }
 {
+    let mut seen = [0usize; 16];
     let mut n = count;
     let mut v = 0;
     while v < f.height {
-        n = scan_row(mask, f, v, v * f.width, out, n);
+        n = scan_row(mask, f, v, v * f.width, out, n, &mut seen);
         v += 1;
     }
     n

@@ -7,7 +7,7 @@ use Rattle.mesh.specs.Step.{Follows}
 use Rattle.mesh.specs.declared.part.Next.{Next}
 use Rattle.mesh.specs.declared.part.Next.the-variants as N
 use Rattle.mesh.proofs.Step.{few}
-use Rattle.mesh.proofs.Shown.{Steps, filled-next, filled-open, filled-shut, plane-in, plane-to, slice-lt, start-lt, steps-are}
+use Rattle.mesh.proofs.Shown.{Steps, filled-next, filled-open, filled-shut, first-le, plane-in, plane-to, slice-lt, start-lt, steps-are}
 use Rattle.mesh.proofs.Tables.{axes-read}
 use Rattle.mesh.proofs.part.fill_slice.Statement.{statement}
 use Rattle.mesh.proofs.part.fill_slice.Tie as tie
@@ -73,7 +73,7 @@ mul-fill-plane : tie.Need-mul-fill-plane
 mul-fill-plane c = let s = c .before .before .before .before .before .before .before .before .before .before .before .before .before in omega (arith, start-lt (s .pre .0) (steps (c .before .before .before .before .before .before .before .before)) (next (c .before .before .before .before) .1))
 
 fill-plane-requires : tie.Need-fill-plane-requires
-fill-plane-requires c κs = let s = c .before .before .before .before .before .before .before .before .before .before .before .before .before in (plane-to (s .pre .0) (steps (c .before .before .before .before .before .before .before .before)), plane-in (s .pre .0) (steps (c .before .before .before .before .before .before .before .before)) (next (c .before .before .before .before) .0) (next (c .before .before .before .before) .1))
+fill-plane-requires c κs = let s = c .before .before .before .before .before .before .before .before .before .before .before .before .before in (plane-to (s .pre .0) (steps (c .before .before .before .before .before .before .before .before)), (plane-in (s .pre .0) (steps (c .before .before .before .before .before .before .before .before)) (next (c .before .before .before .before) .0) (next (c .before .before .before .before) .1), first-le (steps (c .before .before .before .before .before .before .before .before))))
 
 same-length : tie.Need-same-length
 same-length c = search needs

@@ -30,13 +30,13 @@ add-fill-row-2 : tie.Need-add-fill-row-2 Inv-loop μ-loop
 add-fill-row-2 c = let l = c .before .before .before .before in let s = l .before .before .before .before in let t = c .before .before .if1 .taken in omega (arith, s .pre .0 .here .start (l .loop .v) t)
 
 mul-fill-row-3 : tie.Need-mul-fill-row-3 Inv-loop μ-loop
-mul-fill-row-3 c = let l = c .before .before .before .before .before in let s = l .before .before .before .before in let t = c .before .before .before .if1 .taken in omega (arith, s .pre .1 .start (l .loop .v) t)
+mul-fill-row-3 c = let l = c .before .before .before .before .before in let s = l .before .before .before .before in let t = c .before .before .before .if1 .taken in omega (arith, s .pre .1 .0 .start (l .loop .v) t)
 
 add-fill-row-3 : tie.Need-add-fill-row-3 Inv-loop μ-loop
-add-fill-row-3 c = let l = c .before .before .before .before .before in let s = l .before .before .before .before in let t = c .before .before .before .if1 .taken in omega (arith, s .pre .1 .start (l .loop .v) t)
+add-fill-row-3 c = let l = c .before .before .before .before .before in let s = l .before .before .before .before in let t = c .before .before .before .if1 .taken in omega (arith, s .pre .1 .0 .start (l .loop .v) t)
 
 fill-row-requires : tie.Need-fill-row-requires Inv-loop μ-loop
-fill-row-requires c κs = let l = c .before .before .before .before .before in let s = l .before .before .before .before in let t = c .before .before .before .if1 .taken in (row-to (s .pre .0) (l .loop .v) t (l .loop .inv .1 .mask .same), row-in (s .pre .1) (l .loop .v) t)
+fill-row-requires c κs = let l = c .before .before .before .before .before in let s = l .before .before .before .before in let t = c .before .before .before .if1 .taken in (row-to (s .pre .0) (l .loop .v) t (l .loop .inv .1 .mask .same), (row-in (s .pre .1 .0) (l .loop .v) t, s .pre .1 .1))
 
 add-v : tie.Need-add-v Inv-loop μ-loop
 add-v c = search needs

@@ -4,7 +4,10 @@ use Rattle.mesh.proofs.plane.fill_row.Statement.{statement}
 use Rattle.mesh.proofs.plane.fill_row.Tie as tie
 
 full-row-requires : tie.Need-full-row-requires
-full-row-requires c κs = let a = c .before in rw (a .before .if1 .taken, a .if2 .taken) at (a .before .before .before .before .before .pre)
+full-row-requires c κs =
+    let a = c .before in
+    let p = a .before .before .before .before .before .pre in
+    (rw (a .before .if1 .taken, a .if2 .taken) at (p .0), rw (a .before .if1 .taken, a .if2 .taken) at (p .1 .0))
 
 same-length : tie.Need-same-length
 same-length c = search needs

@@ -1,46 +1,42 @@
 -- `mesh::plane::step_row` meets its contract.
-use Prim.Native.Nat.{_+_, _*_, _-_, _≤_}
+use Prim.Native.Nat.{ℕ, _+_, _*_, _-_, _≤_}
+use native.Mathlib.Nat.{suc-mul}
 use native.Mathlib.Omega.{arith}
-use mathlib.Core.Path.{_≡_, sym, _∙_}
+use mathlib.Core.Path.{_≡_, sym, ap, _∙_}
 use mathlib.Core.Logic.{⊎-elim}
+use lib.ListN.{getD}
+use lib.Bits.{bitAnd, and-zero-r}
 use Rattle.mesh.specs.Plane.{FilledRow, seenAt, seenRow}
-use Rattle.mesh.proofs.Laid.{seen, unseen, filled-none, filled-slot}
+use Rattle.mesh.proofs.Laid.{and-all, seen, unseen, filled-none, filled-slot}
 use borrow.Author.Needs.{needs}
 use Rattle.mesh.proofs.plane.step_row.Statement.{statement}
 use Rattle.mesh.proofs.plane.step_row.Tie as tie
 
 abbrev Inv-loop : tie.InvT-loop
-Inv-loop mask₀ to here at next beside step w any₀ u₀ mask any u = (u ≤ w) × FilledRow mask₀ mask any to u (seenRow here next at beside step)
+Inv-loop mask₀ to here at next beside step w any₀ p₀ q₀ u₀ mask any p q u =
+    (u ≤ w) × FilledRow mask₀ mask any to u (seenRow here next at beside step) × (p ≡ at + u * step) × (q ≡ beside + u * step)
 
 abbrev μ-loop : tie.MeasureT-loop
-μ-loop mask₀ to here at next beside step w any₀ u₀ mask any u = w - u
+μ-loop mask₀ to here at next beside step w any₀ p₀ q₀ u₀ mask any p q u = w - u
 
 loop-holds : tie.Need-loop-holds Inv-loop μ-loop
-loop-holds c = (omega arith, filled-none (λ u v a b. omega arith))
+loop-holds c = (omega arith, filled-none (λ u v a b. omega arith), omega arith, omega arith)
 
 mul-a : tie.Need-mul-a Inv-loop μ-loop
-mul-a c = omega (arith, c .before .before .pre .0 .here .room (c .before .loop .u) (c .loop-test .taken))
-
-add-a : tie.Need-add-a Inv-loop μ-loop
-add-a c = omega (arith, c .before .before .pre .0 .here .room (c .before .loop .u) (c .loop-test .taken))
-
-mul-a-2 : tie.Need-mul-a-2 Inv-loop μ-loop
-mul-a-2 c = omega (arith, c .before .before .good, c .before .before .pre .0 .here .room (c .before .loop .u) (c .loop-test .taken))
+mul-a c = omega (arith, c .before .before .good, c .before .before .pre .0 .here .room (c .before .loop .u) (c .loop-test .taken))
 
 shared-slice-read-a : tie.Need-shared-slice-read-a Inv-loop μ-loop
-shared-slice-read-a c = c .before .before .before .pre .0 .here .room (c .before .before .loop .u) (c .before .loop-test .taken)
+shared-slice-read-a c =
+    let l = c .before .before in
+    omega (arith, l .before .pre .0 .here .room (l .loop .u) (c .before .loop-test .taken), l .loop .inv .2)
 
 mul-b : tie.Need-mul-b Inv-loop μ-loop
-mul-b c = omega (arith, c .before .before .before .pre .1 .room (c .before .before .loop .u) (c .before .loop-test .taken))
-
-add-b : tie.Need-add-b Inv-loop μ-loop
-add-b c = omega (arith, c .before .before .before .pre .1 .room (c .before .before .loop .u) (c .before .loop-test .taken))
-
-mul-b-2 : tie.Need-mul-b-2 Inv-loop μ-loop
-mul-b-2 c = omega (arith, c .before .before .before .good, c .before .before .before .pre .1 .room (c .before .before .loop .u) (c .before .loop-test .taken))
+mul-b c = let l = c .before .before in omega (arith, l .before .good, l .before .pre .1 .0 .room (l .loop .u) (c .before .loop-test .taken), l .loop .inv .3)
 
 shared-slice-read-b : tie.Need-shared-slice-read-b Inv-loop μ-loop
-shared-slice-read-b c = c .before .before .before .before .pre .1 .room (c .before .before .before .loop .u) (c .before .before .loop-test .taken)
+shared-slice-read-b c =
+    let l = c .before .before .before in
+    omega (arith, l .before .pre .1 .0 .room (l .loop .u) (c .before .before .loop-test .taken), l .loop .inv .3)
 
 add-mask : tie.Need-add-mask Inv-loop μ-loop
 add-mask c = search needs
@@ -49,7 +45,13 @@ mul-mask : tie.Need-mul-mask Inv-loop μ-loop
 mul-mask c = search needs
 
 slice-write-mask : tie.Need-slice-write-mask Inv-loop μ-loop
-slice-write-mask c = let s = c .before .before .before .before .before in let l = c .before .before .before .before .loop in omega (arith, s .pre .0 .mask, l .inv .1 .mask .same)
+slice-write-mask c = let l = c .before .before .before .before .before in omega (arith, l .before .pre .0 .mask, l .loop .inv .1 .mask .same)
+
+add-p : tie.Need-add-p Inv-loop μ-loop
+add-p c = let l = c .before .before .before .before .before in omega (arith, l .before .good, l .before .pre .0 .here .room (l .loop .u) (c .before .before .before .before .loop-test .taken), l .loop .inv .2, l .before .pre .1 .1)
+
+add-q : tie.Need-add-q Inv-loop μ-loop
+add-q c = let l = c .before .before .before .before .before in omega (arith, l .before .good, l .before .pre .1 .0 .room (l .loop .u) (c .before .before .before .before .loop-test .taken), l .loop .inv .3, l .before .pre .1 .1)
 
 add-u : tie.Need-add-u Inv-loop μ-loop
 add-u c = search needs
@@ -61,14 +63,23 @@ loop-again : tie.Need-loop-again Inv-loop μ-loop
 loop-again c =
     let l = c .before .before .before .before .before in
     let s = l .before in
-    let i = s .args .at + l .loop .u * s .args .step in
-    let j = s .args .beside + l .loop .u * s .args .step in
+    let i = l .loop .p in
+    let j = l .loop .q in
     let here = s .args .here .now in
     let next = s .args .next .now in
-    let e : c .before .if1 .x ≡ seenAt here next i j =
-    ⊎-elim (λ w. w .1 ∙ sym (seen here next i j (w .0 .taken))) (λ w. w .1 ∙ sym (unseen here next i j (w .0 .left))) (c .before .if1 .came)
+    let a = getD here i 0 in
+    let e : bitAnd a (c .before .if1 .keep) ≡ seenAt here next i j =
+    ⊎-elim
+    (λ w. ap (bitAnd a) (w .1) ∙ and-all a (c .before .before .before .shared-slice-known .given i .fits) ∙ sym (seen here next i j (w .0 .taken)))
+    (λ w. ap (bitAnd a) (w .1) ∙ and-zero-r a ∙ sym (unseen here next i j (w .0 .left)))
+    (c .before .if1 .came)
     in
-    (omega arith, filled-slot _ e (l .loop .inv .1) (omega (arith, s .pre .0 .mask)))
+    let f = e ∙ ap (λ (x : ℕ). seenAt here next x j) (l .loop .inv .2) ∙ ap (seenAt here next (s .args .at + l .loop .u * s .args .step)) (l .loop .inv .3) in (
+      omega arith,
+      filled-slot _ f (l .loop .inv .1) (omega (arith, s .pre .0 .mask)),
+      omega (arith, l .loop .inv .2, suc-mul (l .loop .u) (s .args .step)),
+      omega (arith, l .loop .inv .3, suc-mul (l .loop .u) (s .args .step)),
+    )
 
 same-length : tie.Need-same-length Inv-loop μ-loop
 same-length c = c .before .loop .inv .1 .mask .same
@@ -84,16 +95,14 @@ step-row-spec =
     μ-loop
     loop-holds
     mul-a
-    add-a
-    mul-a-2
     shared-slice-read-a
     mul-b
-    add-b
-    mul-b-2
     shared-slice-read-b
     add-mask
     mul-mask
     slice-write-mask
+    add-p
+    add-q
     add-u
     loop-less
     loop-again

@@ -14,18 +14,19 @@ use Rattle.mesh.proofs.scan.scan_mask.Statement.{statement}
 use Rattle.mesh.proofs.scan.scan_mask.Tie as tie
 
 abbrev Inv-loop : tie.InvT-loop
-Inv-loop mask₀ f out₀ count n₀ v₀ mask out n v =
+Inv-loop mask₀ f out₀ count seen₀ n₀ v₀ mask out seen n v =
     (v ≤ f .height)
     × Wrote f (rowsTo (f .width) (f .height) (fresh mask₀) v) mask out₀ out n₀ n
     × (length mask ≡ length mask₀)
     × (length out ≡ length out₀)
+    × (length seen ≡ 16)
 
 abbrev μ-loop : tie.MeasureT-loop
-μ-loop mask₀ f out₀ count n₀ v₀ mask out n v = f .height - v
+μ-loop mask₀ f out₀ count seen₀ n₀ v₀ mask out seen n v = f .height - v
 
 loop-holds : tie.Need-loop-holds Inv-loop μ-loop
 unfolding rowsTo
-loop-holds c = (search needs, wrote-start _ _ _ _, refl, refl)
+loop-holds c = (search needs, wrote-start _ _ _ _, refl, refl, refl)
 
 mul-scan-row : tie.Need-mul-scan-row Inv-loop μ-loop
 mul-scan-row c =
@@ -35,17 +36,19 @@ mul-scan-row c =
 
 scan-row-requires : tie.Need-scan-row-requires Inv-loop μ-loop
 scan-row-requires c κs =
-    let s = c .before .before .before .before .before .before .before in
+    let s = c .before .before .before .before .before .before .before .before in
     let p = s .pre in
-    let l = c .before .before .before .before .before .loop in
-    let t = c .before .before .before .if1 .taken in
-    record {
-      lies = p .lies;
-      whole = omega (arith, p .whole, l .inv .2);
-      second = t;
-      here = refl;
-      few = omega (arith, p .few, p .whole, s .good .0 .1, l .inv .1 .total, rows-few (s .args .f .width) (s .args .f .height) (fresh (now (s .args .mask))) (l .v), row-fits (s .args .f .width) (s .args .f .height) (l .v) t);
-    }
+    let l = c .before .before .before .before .before .before .loop in
+    let t = c .before .before .before .before .if1 .taken in (
+      record {
+        lies = p .lies;
+        whole = omega (arith, p .whole, l .inv .2);
+        second = t;
+        here = refl;
+        few = omega (arith, p .few, p .whole, s .good .0 .1, l .inv .1 .total, rows-few (s .args .f .width) (s .args .f .height) (fresh (now (s .args .mask))) (l .v), row-fits (s .args .f .width) (s .args .f .height) (l .v) t);
+      },
+      l .inv .4,
+    )
 
 add-v : tie.Need-add-v Inv-loop μ-loop
 add-v c = search needs
@@ -55,13 +58,14 @@ loop-less c = search needs
 
 loop-again : tie.Need-loop-again Inv-loop μ-loop
 loop-again c =
-    let s = c .before .before .before .before .before .before .before .before .before .before .before in
-    let l = c .before .before .before .before .before .before .before .before .before .loop in
+    let s = c .before .before .before .before .before .before .before .before .before .before .before .before in
+    let l = c .before .before .before .before .before .before .before .before .before .before .loop in
     let k = c .before .before .before .scan-row in (
-      omega (arith, c .before .before .before .before .before .before .before .if1 .taken),
-      rows-step (now (s .args .mask)) (l .v) (l .inv .1) (k .ensures),
+      omega (arith, c .before .before .before .before .before .before .before .before .if1 .taken),
+      rows-step (now (s .args .mask)) (l .v) (l .inv .1) (k .ensures .0),
       k .kept .0 ∙ l .inv .2,
       k .kept .1 .1 .1 .1 .0 ∙ l .inv .3,
+      k .ensures .1,
     )
 
 same-length : tie.Need-same-length Inv-loop μ-loop
