@@ -139,7 +139,7 @@ pub extern "C" fn stand_set(
     set_reply(answer, after)
 }
 
-// Gives every cell of a box a finish. Rules out a count of the box instead of the cells changed, and another header than the last one.
+// Gives every cell that lies both in a box and in the stand a finish. Rules out a count of the box instead of the cells changed, and another header than the last one.
 #[no_mangle]
 pub extern "C" fn stand_fill(
     volume: Volume,

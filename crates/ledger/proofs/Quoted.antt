@@ -30,7 +30,7 @@ use Rattle.ledger.specs.Calls as C
 use Rattle.ledger.specs.Quoted.{Far, Printed, Quoted, Refusals, fillingFirst, thirtyThree}
 
 printed : (k a b c d e f : ℕ) → Printed k a b c d e f
-unfolding O.openedShape O.sizesOf O.sizeOn S.sections S.product S.counted S.chunksIn S.chunksOn S.lastFits R.first R.answer T.freshState T.volumeOf T.freshStorage T.storageFits S.wellFormed S.good S.axisGood S.shapeOf S.opens E.fitting E.edited E.setDef E.put E.changed E.advanced E.solidAfter E.hashAfter E.toggled E.look S.slot S.slotAt S.distance S.over S.rest S.sectionAt S.withinAt S.cellFrom H.termOf H.splitMix H.xorShift W.mul64 E.setCall E.setRefusal S.inside S.insideOn L.fillCall L.fillRefusal L.fillDef L.setEach L.andThen L.boxCells L.solidCells L.planeCells L.rowCells L.boxOf L.spanning L.lowCell L.highCell L.lowZ L.highZ L.cellsIn S.clampSpot S.clampOn M.largestSide M.sectionPart S.corner S.chunkPlace N.partPanels N.panelsTo N.sidePanels N.slicePanels N.boxesOf N.quadOf N.stepsOf M.sliceMask M.slotShown M.table M.cellIn M.added M.facing M.turned M.depthOf M.widthOf M.heightOf X.shown X.clears X.ahead I.normalAt I.firstAt I.secondAt I.stepAt I.stepOn I.wayAt moved saturate G.upto G.all G.full G.grow G.rep G.clearBox G.size G.alike G.boxAt G.cut G.cutTo G.total G.limits F.wiped K.faceSum K.sumTo near sharesFace gaps D.walk D.givenAt D.logged P.wantOf P.allPriced P.openFits P.refreshFits P.measureRefusal P.measuring P.openCall P.refreshCall P.totalsRefusal P.totalsCall rated payable hits dueOf todo centsOf rowOf measured slicePriced priced remake rowAt remeasure sums sane C.given C.result C.edited C.sheeted C.leftBy C.step C.run
+unfolding O.openedShape O.sizesOf O.sizeOn S.sections S.product S.counted S.chunksIn S.chunksOn S.lastFits R.first R.answer T.freshState T.volumeOf T.freshStorage T.storageFits S.wellFormed S.good S.axisGood S.shapeOf S.opens E.fitting E.edited E.setDef E.put E.changed E.advanced E.solidAfter E.hashAfter E.toggled E.look S.slot S.slotAt S.distance S.over S.rest S.sectionAt S.withinAt S.cellFrom H.termOf H.splitMix H.xorShift W.mul64 E.setCall E.setRefusal S.inside S.insideOn L.fillCall L.fillRefusal L.fillDef L.setEach L.andThen L.boxCells L.solidCells L.planeCells L.rowCells L.boxOf L.spanning L.lowCell L.highCell L.lowZ L.highZ L.cellsIn L.belowSpot L.belowOn L.past M.largestSide M.sectionPart S.corner S.chunkPlace N.partPanels N.panelsTo N.sidePanels N.slicePanels N.boxesOf N.quadOf N.stepsOf M.sliceMask M.slotShown M.table M.cellIn M.added M.facing M.turned M.depthOf M.widthOf M.heightOf X.shown X.clears X.ahead I.normalAt I.firstAt I.secondAt I.stepAt I.stepOn I.wayAt moved saturate G.upto G.all G.full G.grow G.rep G.clearBox G.size G.alike G.boxAt G.cut G.cutTo G.total G.limits F.wiped K.faceSum K.sumTo near sharesFace gaps D.walk D.givenAt D.logged P.wantOf P.allPriced P.openFits P.refreshFits P.measureRefusal P.measuring P.openCall P.refreshCall P.totalsRefusal P.totalsCall rated payable hits dueOf todo centsOf rowOf measured slicePriced priced remake rowAt remeasure sums sane C.given C.result C.edited C.sheeted C.leftBy C.step C.run
 printed k a b c d e f =
     record {
       filled = refl;
@@ -40,7 +40,7 @@ printed k a b c d e f =
     }
 
 refusals : Refusals
-unfolding O.openedShape O.sizesOf O.sizeOn S.sections S.product S.counted S.chunksIn S.chunksOn S.lastFits R.first R.answer T.freshState T.volumeOf T.freshStorage T.storageFits S.wellFormed S.good S.axisGood S.shapeOf S.opens E.fitting E.edited E.setDef E.put E.changed E.advanced E.solidAfter E.hashAfter E.toggled E.look S.slot S.slotAt S.distance S.over S.rest S.sectionAt S.withinAt S.cellFrom H.termOf H.splitMix H.xorShift W.mul64 E.setCall E.setRefusal S.inside S.insideOn L.fillCall L.fillRefusal L.fillDef L.setEach L.andThen L.boxCells L.solidCells L.planeCells L.rowCells L.boxOf L.spanning L.lowCell L.highCell L.lowZ L.highZ L.cellsIn S.clampSpot S.clampOn M.largestSide M.sectionPart S.corner S.chunkPlace N.partPanels N.panelsTo N.sidePanels N.slicePanels N.boxesOf N.quadOf N.stepsOf M.sliceMask M.slotShown M.table M.cellIn M.added M.facing M.turned M.depthOf M.widthOf M.heightOf X.shown X.clears X.ahead I.normalAt I.firstAt I.secondAt I.stepAt I.stepOn I.wayAt moved saturate G.upto G.all G.full G.grow G.rep G.clearBox G.size G.alike G.boxAt G.cut G.cutTo G.total G.limits F.wiped K.faceSum K.sumTo near sharesFace gaps D.walk D.givenAt D.logged P.wantOf P.allPriced P.openFits P.refreshFits P.measureRefusal P.measuring P.openCall P.refreshCall P.totalsRefusal P.totalsCall rated payable hits dueOf todo centsOf rowOf measured slicePriced priced remake rowAt remeasure sums sane C.given C.result C.edited C.sheeted C.leftBy C.step C.run
+unfolding O.openedShape O.sizesOf O.sizeOn S.sections S.product S.counted S.chunksIn S.chunksOn S.lastFits R.first R.answer T.freshState T.volumeOf T.freshStorage T.storageFits S.wellFormed S.good S.axisGood S.shapeOf S.opens E.fitting E.edited E.setDef E.put E.changed E.advanced E.solidAfter E.hashAfter E.toggled E.look S.slot S.slotAt S.distance S.over S.rest S.sectionAt S.withinAt S.cellFrom H.termOf H.splitMix H.xorShift W.mul64 E.setCall E.setRefusal S.inside S.insideOn L.fillCall L.fillRefusal L.fillDef L.setEach L.andThen L.boxCells L.solidCells L.planeCells L.rowCells L.boxOf L.spanning L.lowCell L.highCell L.lowZ L.highZ L.cellsIn L.belowSpot L.belowOn L.past M.largestSide M.sectionPart S.corner S.chunkPlace N.partPanels N.panelsTo N.sidePanels N.slicePanels N.boxesOf N.quadOf N.stepsOf M.sliceMask M.slotShown M.table M.cellIn M.added M.facing M.turned M.depthOf M.widthOf M.heightOf X.shown X.clears X.ahead I.normalAt I.firstAt I.secondAt I.stepAt I.stepOn I.wayAt moved saturate G.upto G.all G.full G.grow G.rep G.clearBox G.size G.alike G.boxAt G.cut G.cutTo G.total G.limits F.wiped K.faceSum K.sumTo near sharesFace gaps D.walk D.givenAt D.logged P.wantOf P.allPriced P.openFits P.refreshFits P.measureRefusal P.measuring P.openCall P.refreshCall P.totalsRefusal P.totalsCall rated payable hits dueOf todo centsOf rowOf measured slicePriced priced remake rowAt remeasure sums sane C.given C.result C.edited C.sheeted C.leftBy C.step C.run
 refusals =
     record {
       three = refl;
@@ -59,7 +59,7 @@ refusals =
     }
 
 far : (a b c d e f g h i : ℕ) → Far a b c d e f g h i
-unfolding O.openedShape O.sizesOf O.sizeOn S.sections S.product S.counted S.chunksIn S.chunksOn S.lastFits R.first R.answer T.freshState T.volumeOf T.freshStorage T.storageFits S.wellFormed S.good S.axisGood S.shapeOf S.opens E.fitting E.edited E.setDef E.put E.changed E.advanced E.solidAfter E.hashAfter E.toggled E.look S.slot S.slotAt S.distance S.over S.rest S.sectionAt S.withinAt S.cellFrom H.termOf H.splitMix H.xorShift W.mul64 E.setCall E.setRefusal S.inside S.insideOn L.fillCall L.fillRefusal L.fillDef L.setEach L.andThen L.boxCells L.solidCells L.planeCells L.rowCells L.boxOf L.spanning L.lowCell L.highCell L.lowZ L.highZ L.cellsIn S.clampSpot S.clampOn M.largestSide M.sectionPart S.corner S.chunkPlace N.partPanels N.panelsTo N.sidePanels N.slicePanels N.boxesOf N.quadOf N.stepsOf M.sliceMask M.slotShown M.table M.cellIn M.added M.facing M.turned M.depthOf M.widthOf M.heightOf X.shown X.clears X.ahead I.normalAt I.firstAt I.secondAt I.stepAt I.stepOn I.wayAt moved saturate G.upto G.all G.full G.grow G.rep G.clearBox G.size G.alike G.boxAt G.cut G.cutTo G.total G.limits F.wiped K.faceSum K.sumTo near sharesFace gaps D.walk D.givenAt D.logged P.wantOf P.allPriced P.openFits P.refreshFits P.measureRefusal P.measuring P.openCall P.refreshCall P.totalsRefusal P.totalsCall rated payable hits dueOf todo centsOf rowOf measured slicePriced priced remake rowAt remeasure sums sane C.given C.result C.edited C.sheeted C.leftBy C.step C.run
+unfolding O.openedShape O.sizesOf O.sizeOn S.sections S.product S.counted S.chunksIn S.chunksOn S.lastFits R.first R.answer T.freshState T.volumeOf T.freshStorage T.storageFits S.wellFormed S.good S.axisGood S.shapeOf S.opens E.fitting E.edited E.setDef E.put E.changed E.advanced E.solidAfter E.hashAfter E.toggled E.look S.slot S.slotAt S.distance S.over S.rest S.sectionAt S.withinAt S.cellFrom H.termOf H.splitMix H.xorShift W.mul64 E.setCall E.setRefusal S.inside S.insideOn L.fillCall L.fillRefusal L.fillDef L.setEach L.andThen L.boxCells L.solidCells L.planeCells L.rowCells L.boxOf L.spanning L.lowCell L.highCell L.lowZ L.highZ L.cellsIn L.belowSpot L.belowOn L.past M.largestSide M.sectionPart S.corner S.chunkPlace N.partPanels N.panelsTo N.sidePanels N.slicePanels N.boxesOf N.quadOf N.stepsOf M.sliceMask M.slotShown M.table M.cellIn M.added M.facing M.turned M.depthOf M.widthOf M.heightOf X.shown X.clears X.ahead I.normalAt I.firstAt I.secondAt I.stepAt I.stepOn I.wayAt moved saturate G.upto G.all G.full G.grow G.rep G.clearBox G.size G.alike G.boxAt G.cut G.cutTo G.total G.limits F.wiped K.faceSum K.sumTo near sharesFace gaps D.walk D.givenAt D.logged P.wantOf P.allPriced P.openFits P.refreshFits P.measureRefusal P.measuring P.openCall P.refreshCall P.totalsRefusal P.totalsCall rated payable hits dueOf todo centsOf rowOf measured slicePriced priced remake rowAt remeasure sums sane C.given C.result C.edited C.sheeted C.leftBy C.step C.run
 far a b c d e f g h i =
     record {
       one = refl;
@@ -67,7 +67,7 @@ far a b c d e f g h i =
     }
 
 lag-above : (a b c d e f g h i : ℕ) → C.run (thirtyThree a b c d e f g h i) (fillingFirst 4) .sheet ≡ 6 ∷ 18 ∷ 2100 ∷ 0 ∷ 0 ∷ 0 ∷ 0 ∷ 0 ∷ 0 ∷ []
-unfolding O.openedShape O.sizesOf O.sizeOn S.sections S.product S.counted S.chunksIn S.chunksOn S.lastFits R.first R.answer T.freshState T.volumeOf T.freshStorage T.storageFits S.wellFormed S.good S.axisGood S.shapeOf S.opens E.fitting E.edited E.setDef E.put E.changed E.advanced E.solidAfter E.hashAfter E.toggled E.look S.slot S.slotAt S.distance S.over S.rest S.sectionAt S.withinAt S.cellFrom H.termOf H.splitMix H.xorShift W.mul64 E.setCall E.setRefusal S.inside S.insideOn L.fillCall L.fillRefusal L.fillDef L.setEach L.andThen L.boxCells L.solidCells L.planeCells L.rowCells L.boxOf L.spanning L.lowCell L.highCell L.lowZ L.highZ L.cellsIn S.clampSpot S.clampOn M.largestSide M.sectionPart S.corner S.chunkPlace N.partPanels N.panelsTo N.sidePanels N.slicePanels N.boxesOf N.quadOf N.stepsOf M.sliceMask M.slotShown M.table M.cellIn M.added M.facing M.turned M.depthOf M.widthOf M.heightOf X.shown X.clears X.ahead I.normalAt I.firstAt I.secondAt I.stepAt I.stepOn I.wayAt moved saturate G.upto G.all G.full G.grow G.rep G.clearBox G.size G.alike G.boxAt G.cut G.cutTo G.total G.limits F.wiped K.faceSum K.sumTo near sharesFace gaps D.walk D.givenAt D.logged P.wantOf P.allPriced P.openFits P.refreshFits P.measureRefusal P.measuring P.openCall P.refreshCall P.totalsRefusal P.totalsCall rated payable hits dueOf todo centsOf rowOf measured slicePriced priced remake rowAt remeasure sums sane C.given C.result C.edited C.sheeted C.leftBy C.step C.run
+unfolding O.openedShape O.sizesOf O.sizeOn S.sections S.product S.counted S.chunksIn S.chunksOn S.lastFits R.first R.answer T.freshState T.volumeOf T.freshStorage T.storageFits S.wellFormed S.good S.axisGood S.shapeOf S.opens E.fitting E.edited E.setDef E.put E.changed E.advanced E.solidAfter E.hashAfter E.toggled E.look S.slot S.slotAt S.distance S.over S.rest S.sectionAt S.withinAt S.cellFrom H.termOf H.splitMix H.xorShift W.mul64 E.setCall E.setRefusal S.inside S.insideOn L.fillCall L.fillRefusal L.fillDef L.setEach L.andThen L.boxCells L.solidCells L.planeCells L.rowCells L.boxOf L.spanning L.lowCell L.highCell L.lowZ L.highZ L.cellsIn L.belowSpot L.belowOn L.past M.largestSide M.sectionPart S.corner S.chunkPlace N.partPanels N.panelsTo N.sidePanels N.slicePanels N.boxesOf N.quadOf N.stepsOf M.sliceMask M.slotShown M.table M.cellIn M.added M.facing M.turned M.depthOf M.widthOf M.heightOf X.shown X.clears X.ahead I.normalAt I.firstAt I.secondAt I.stepAt I.stepOn I.wayAt moved saturate G.upto G.all G.full G.grow G.rep G.clearBox G.size G.alike G.boxAt G.cut G.cutTo G.total G.limits F.wiped K.faceSum K.sumTo near sharesFace gaps D.walk D.givenAt D.logged P.wantOf P.allPriced P.openFits P.refreshFits P.measureRefusal P.measuring P.openCall P.refreshCall P.totalsRefusal P.totalsCall rated payable hits dueOf todo centsOf rowOf measured slicePriced priced remake rowAt remeasure sums sane C.given C.result C.edited C.sheeted C.leftBy C.step C.run
 lag-above a b c d e f g h i = refl
 
 pub quoted : Quoted

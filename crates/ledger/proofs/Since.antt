@@ -12,10 +12,9 @@ use Rattle.stand.specs.Feed.{logged, walk}
 use Rattle.stand.specs.Shape.{counted, sections}
 use Rattle.stand.specs.Storage.{State, shape}
 use Rattle.stand.proofs.Feed.{changed-is, changed-walk, is-changed, walk-changed}
-use Rattle.stand.proofs.Tests.{by-test}
+use Rattle.stand.proofs.Tests.{by-test, neither}
 use Rattle.mesh.specs.Near.{near}
 use Rattle.sheet.specs.Due.{dueOf, hits, todo}
-use Rattle.sheet.proofs.Tools.{neither}
 use Rattle.ledger.specs.Book.{Book, Changed}
 use Rattle.ledger.proofs.Tells.{Tells}
 

@@ -16,7 +16,7 @@ use Rattle.stand.specs.Storage.{Lengths, Outcome, State, Storage, freshState, f
 use Rattle.stand.specs.declared.Cell.{Cell}
 use Rattle.stand.specs.declared.volume.Extent.{Extent}
 use Rattle.stand.proofs.Edit.{by-put, changed-fitting, changed-formed, fitting-lengths, settable}
-use Rattle.stand.proofs.Fill.{box-inside}
+use Rattle.stand.proofs.Parts.{box-inside}
 use Rattle.stand.proofs.Kept.{fresh-sound, zeros}
 use Rattle.stand.proofs.Opening.{opened-opens}
 use Rattle.stand.proofs.Refusal.{passes}
@@ -174,7 +174,7 @@ module _ (s : State) (b : Book) (t : Tells s b) (c d : Cell) (v : ℕ) where
   tells-box : Tells (fillDef s c d v .state) (setAll b box v)
   unfolding fillDef
   tells-box =
-      rw (t .shape-is) (tells-all box (record { count = 0; state = s }) b v t (λ e m. box-inside (b .shape) c d e (t .opened) m))
+      rw (t .shape-is) (tells-all box (record { count = 0; state = s }) b v t (λ e m. box-inside (b .shape) c d e m))
 
   abbrev fillTurns : ℕ
   fillTurns = fillRefusal (wellFormed (s .volume)) (fitting s) (shape s) (s .volume .generation) c d

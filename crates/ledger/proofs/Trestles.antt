@@ -71,31 +71,31 @@ p3-more st = refl
 -- ---- changed since a mark
 
 p4 : sinceMark 15 ≡ R.gives 15
-unfolding O.openRefusal O.openedShape O.sizesOf O.sizeOn O.tooMany O.lastInside S.sections S.product S.counted S.chunksIn S.chunksOn S.lastFits R.first T.freshState T.volumeOf T.freshStorage T.storageFits S.wellFormed S.good S.axisGood S.shapeOf S.opens E.fitting E.edited E.setDef E.put E.changed E.advanced E.solidAfter E.hashAfter E.toggled E.look S.slot S.slotAt S.distance S.over S.rest S.sectionAt S.withinAt S.cellFrom H.termOf H.splitMix H.xorShift W.mul64 L.fillCall L.fillRefusal L.fillDef L.setEach L.andThen L.boxCells L.solidCells L.planeCells L.rowCells L.boxOf L.spanning L.lowCell L.highCell L.lowZ L.highZ L.cellsIn S.clampSpot S.clampOn D.changedSince D.changedStep D.feedRefusal D.nextFrom D.givenAt D.logged R.answer
+unfolding O.openRefusal O.openedShape O.sizesOf O.sizeOn O.tooMany O.lastInside S.sections S.product S.counted S.chunksIn S.chunksOn S.lastFits R.first T.freshState T.volumeOf T.freshStorage T.storageFits S.wellFormed S.good S.axisGood S.shapeOf S.opens E.fitting E.edited E.setDef E.put E.changed E.advanced E.solidAfter E.hashAfter E.toggled E.look S.slot S.slotAt S.distance S.over S.rest S.sectionAt S.withinAt S.cellFrom H.termOf H.splitMix H.xorShift W.mul64 L.fillCall L.fillRefusal L.fillDef L.setEach L.andThen L.boxCells L.solidCells L.planeCells L.rowCells L.boxOf L.spanning L.lowCell L.highCell L.lowZ L.highZ L.cellsIn L.belowSpot L.belowOn L.past D.changedSince D.changedStep D.feedRefusal D.nextFrom D.givenAt D.logged R.answer
 p4 = refl
 
 p4-walk : D.walk 2 (seventeen .log) (seventeen .last) 15 2 ≡ 0 ∷ 1 ∷ []
-unfolding O.openRefusal O.openedShape O.sizesOf O.sizeOn O.tooMany O.lastInside S.sections S.product S.counted S.chunksIn S.chunksOn S.lastFits R.first T.freshState T.volumeOf T.freshStorage T.storageFits S.wellFormed S.good S.axisGood S.shapeOf S.opens E.fitting E.edited E.setDef E.put E.changed E.advanced E.solidAfter E.hashAfter E.toggled E.look S.slot S.slotAt S.distance S.over S.rest S.sectionAt S.withinAt S.cellFrom H.termOf H.splitMix H.xorShift W.mul64 L.fillCall L.fillRefusal L.fillDef L.setEach L.andThen L.boxCells L.solidCells L.planeCells L.rowCells L.boxOf L.spanning L.lowCell L.highCell L.lowZ L.highZ L.cellsIn S.clampSpot S.clampOn D.changedSince D.changedStep D.feedRefusal D.nextFrom D.givenAt D.logged R.answer D.walk
+unfolding O.openRefusal O.openedShape O.sizesOf O.sizeOn O.tooMany O.lastInside S.sections S.product S.counted S.chunksIn S.chunksOn S.lastFits R.first T.freshState T.volumeOf T.freshStorage T.storageFits S.wellFormed S.good S.axisGood S.shapeOf S.opens E.fitting E.edited E.setDef E.put E.changed E.advanced E.solidAfter E.hashAfter E.toggled E.look S.slot S.slotAt S.distance S.over S.rest S.sectionAt S.withinAt S.cellFrom H.termOf H.splitMix H.xorShift W.mul64 L.fillCall L.fillRefusal L.fillDef L.setEach L.andThen L.boxCells L.solidCells L.planeCells L.rowCells L.boxOf L.spanning L.lowCell L.highCell L.lowZ L.highZ L.cellsIn L.belowSpot L.belowOn L.past D.changedSince D.changedStep D.feedRefusal D.nextFrom D.givenAt D.logged R.answer D.walk
 p4-walk = refl
 
 p4-first : changedFrom 15 ≡ R.gives (D.Next.chunk 0 16)
-unfolding O.openRefusal O.openedShape O.sizesOf O.sizeOn O.tooMany O.lastInside S.sections S.product S.counted S.chunksIn S.chunksOn S.lastFits R.first T.freshState T.volumeOf T.freshStorage T.storageFits S.wellFormed S.good S.axisGood S.shapeOf S.opens E.fitting E.edited E.setDef E.put E.changed E.advanced E.solidAfter E.hashAfter E.toggled E.look S.slot S.slotAt S.distance S.over S.rest S.sectionAt S.withinAt S.cellFrom H.termOf H.splitMix H.xorShift W.mul64 L.fillCall L.fillRefusal L.fillDef L.setEach L.andThen L.boxCells L.solidCells L.planeCells L.rowCells L.boxOf L.spanning L.lowCell L.highCell L.lowZ L.highZ L.cellsIn S.clampSpot S.clampOn D.changedSince D.changedStep D.feedRefusal D.nextFrom D.givenAt D.logged R.answer
+unfolding O.openRefusal O.openedShape O.sizesOf O.sizeOn O.tooMany O.lastInside S.sections S.product S.counted S.chunksIn S.chunksOn S.lastFits R.first T.freshState T.volumeOf T.freshStorage T.storageFits S.wellFormed S.good S.axisGood S.shapeOf S.opens E.fitting E.edited E.setDef E.put E.changed E.advanced E.solidAfter E.hashAfter E.toggled E.look S.slot S.slotAt S.distance S.over S.rest S.sectionAt S.withinAt S.cellFrom H.termOf H.splitMix H.xorShift W.mul64 L.fillCall L.fillRefusal L.fillDef L.setEach L.andThen L.boxCells L.solidCells L.planeCells L.rowCells L.boxOf L.spanning L.lowCell L.highCell L.lowZ L.highZ L.cellsIn L.belowSpot L.belowOn L.past D.changedSince D.changedStep D.feedRefusal D.nextFrom D.givenAt D.logged R.answer
 p4-first = refl
 
 p5 : changedFrom 16 ≡ R.gives (D.Next.chunk 1 17)
-unfolding O.openRefusal O.openedShape O.sizesOf O.sizeOn O.tooMany O.lastInside S.sections S.product S.counted S.chunksIn S.chunksOn S.lastFits R.first T.freshState T.volumeOf T.freshStorage T.storageFits S.wellFormed S.good S.axisGood S.shapeOf S.opens E.fitting E.edited E.setDef E.put E.changed E.advanced E.solidAfter E.hashAfter E.toggled E.look S.slot S.slotAt S.distance S.over S.rest S.sectionAt S.withinAt S.cellFrom H.termOf H.splitMix H.xorShift W.mul64 L.fillCall L.fillRefusal L.fillDef L.setEach L.andThen L.boxCells L.solidCells L.planeCells L.rowCells L.boxOf L.spanning L.lowCell L.highCell L.lowZ L.highZ L.cellsIn S.clampSpot S.clampOn D.changedSince D.changedStep D.feedRefusal D.nextFrom D.givenAt D.logged R.answer
+unfolding O.openRefusal O.openedShape O.sizesOf O.sizeOn O.tooMany O.lastInside S.sections S.product S.counted S.chunksIn S.chunksOn S.lastFits R.first T.freshState T.volumeOf T.freshStorage T.storageFits S.wellFormed S.good S.axisGood S.shapeOf S.opens E.fitting E.edited E.setDef E.put E.changed E.advanced E.solidAfter E.hashAfter E.toggled E.look S.slot S.slotAt S.distance S.over S.rest S.sectionAt S.withinAt S.cellFrom H.termOf H.splitMix H.xorShift W.mul64 L.fillCall L.fillRefusal L.fillDef L.setEach L.andThen L.boxCells L.solidCells L.planeCells L.rowCells L.boxOf L.spanning L.lowCell L.highCell L.lowZ L.highZ L.cellsIn L.belowSpot L.belowOn L.past D.changedSince D.changedStep D.feedRefusal D.nextFrom D.givenAt D.logged R.answer
 p5 = refl
 
 p6 : changedFrom 17 ≡ R.gives D.Next.end
-unfolding O.openRefusal O.openedShape O.sizesOf O.sizeOn O.tooMany O.lastInside S.sections S.product S.counted S.chunksIn S.chunksOn S.lastFits R.first T.freshState T.volumeOf T.freshStorage T.storageFits S.wellFormed S.good S.axisGood S.shapeOf S.opens E.fitting E.edited E.setDef E.put E.changed E.advanced E.solidAfter E.hashAfter E.toggled E.look S.slot S.slotAt S.distance S.over S.rest S.sectionAt S.withinAt S.cellFrom H.termOf H.splitMix H.xorShift W.mul64 L.fillCall L.fillRefusal L.fillDef L.setEach L.andThen L.boxCells L.solidCells L.planeCells L.rowCells L.boxOf L.spanning L.lowCell L.highCell L.lowZ L.highZ L.cellsIn S.clampSpot S.clampOn D.changedSince D.changedStep D.feedRefusal D.nextFrom D.givenAt D.logged R.answer
+unfolding O.openRefusal O.openedShape O.sizesOf O.sizeOn O.tooMany O.lastInside S.sections S.product S.counted S.chunksIn S.chunksOn S.lastFits R.first T.freshState T.volumeOf T.freshStorage T.storageFits S.wellFormed S.good S.axisGood S.shapeOf S.opens E.fitting E.edited E.setDef E.put E.changed E.advanced E.solidAfter E.hashAfter E.toggled E.look S.slot S.slotAt S.distance S.over S.rest S.sectionAt S.withinAt S.cellFrom H.termOf H.splitMix H.xorShift W.mul64 L.fillCall L.fillRefusal L.fillDef L.setEach L.andThen L.boxCells L.solidCells L.planeCells L.rowCells L.boxOf L.spanning L.lowCell L.highCell L.lowZ L.highZ L.cellsIn L.belowSpot L.belowOn L.past D.changedSince D.changedStep D.feedRefusal D.nextFrom D.givenAt D.logged R.answer
 p6 = refl
 
 p7 : sinceMark 18 ≡ R.refused 8
-unfolding O.openRefusal O.openedShape O.sizesOf O.sizeOn O.tooMany O.lastInside S.sections S.product S.counted S.chunksIn S.chunksOn S.lastFits R.first T.freshState T.volumeOf T.freshStorage T.storageFits S.wellFormed S.good S.axisGood S.shapeOf S.opens E.fitting E.edited E.setDef E.put E.changed E.advanced E.solidAfter E.hashAfter E.toggled E.look S.slot S.slotAt S.distance S.over S.rest S.sectionAt S.withinAt S.cellFrom H.termOf H.splitMix H.xorShift W.mul64 L.fillCall L.fillRefusal L.fillDef L.setEach L.andThen L.boxCells L.solidCells L.planeCells L.rowCells L.boxOf L.spanning L.lowCell L.highCell L.lowZ L.highZ L.cellsIn S.clampSpot S.clampOn D.changedSince D.changedStep D.feedRefusal D.nextFrom D.givenAt D.logged R.answer
+unfolding O.openRefusal O.openedShape O.sizesOf O.sizeOn O.tooMany O.lastInside S.sections S.product S.counted S.chunksIn S.chunksOn S.lastFits R.first T.freshState T.volumeOf T.freshStorage T.storageFits S.wellFormed S.good S.axisGood S.shapeOf S.opens E.fitting E.edited E.setDef E.put E.changed E.advanced E.solidAfter E.hashAfter E.toggled E.look S.slot S.slotAt S.distance S.over S.rest S.sectionAt S.withinAt S.cellFrom H.termOf H.splitMix H.xorShift W.mul64 L.fillCall L.fillRefusal L.fillDef L.setEach L.andThen L.boxCells L.solidCells L.planeCells L.rowCells L.boxOf L.spanning L.lowCell L.highCell L.lowZ L.highZ L.cellsIn L.belowSpot L.belowOn L.past D.changedSince D.changedStep D.feedRefusal D.nextFrom D.givenAt D.logged R.answer
 p7 = refl
 
 p8 : sinceMark 14 ≡ R.refused 9
-unfolding O.openRefusal O.openedShape O.sizesOf O.sizeOn O.tooMany O.lastInside S.sections S.product S.counted S.chunksIn S.chunksOn S.lastFits R.first T.freshState T.volumeOf T.freshStorage T.storageFits S.wellFormed S.good S.axisGood S.shapeOf S.opens E.fitting E.edited E.setDef E.put E.changed E.advanced E.solidAfter E.hashAfter E.toggled E.look S.slot S.slotAt S.distance S.over S.rest S.sectionAt S.withinAt S.cellFrom H.termOf H.splitMix H.xorShift W.mul64 L.fillCall L.fillRefusal L.fillDef L.setEach L.andThen L.boxCells L.solidCells L.planeCells L.rowCells L.boxOf L.spanning L.lowCell L.highCell L.lowZ L.highZ L.cellsIn S.clampSpot S.clampOn D.changedSince D.changedStep D.feedRefusal D.nextFrom D.givenAt D.logged R.answer
+unfolding O.openRefusal O.openedShape O.sizesOf O.sizeOn O.tooMany O.lastInside S.sections S.product S.counted S.chunksIn S.chunksOn S.lastFits R.first T.freshState T.volumeOf T.freshStorage T.storageFits S.wellFormed S.good S.axisGood S.shapeOf S.opens E.fitting E.edited E.setDef E.put E.changed E.advanced E.solidAfter E.hashAfter E.toggled E.look S.slot S.slotAt S.distance S.over S.rest S.sectionAt S.withinAt S.cellFrom H.termOf H.splitMix H.xorShift W.mul64 L.fillCall L.fillRefusal L.fillDef L.setEach L.andThen L.boxCells L.solidCells L.planeCells L.rowCells L.boxOf L.spanning L.lowCell L.highCell L.lowZ L.highZ L.cellsIn L.belowSpot L.belowOn L.past D.changedSince D.changedStep D.feedRefusal D.nextFrom D.givenAt D.logged R.answer
 p8 = refl
 
 -- ---- edits
@@ -116,17 +116,13 @@ p9-generation : setBack .volume .generation ≡ 2
 unfolding O.openRefusal O.openedShape O.sizesOf O.sizeOn O.tooMany O.lastInside S.sections S.product S.counted S.chunksIn S.chunksOn S.lastFits R.first T.freshState T.volumeOf T.freshStorage T.storageFits S.wellFormed S.good S.axisGood S.shapeOf S.opens E.fitting E.edited E.setDef E.put E.changed E.advanced E.solidAfter E.hashAfter E.toggled E.look S.slot S.slotAt S.distance S.over S.rest S.sectionAt S.withinAt S.cellFrom H.termOf H.splitMix H.xorShift W.mul64 E.setCall E.setRefusal S.inside S.insideOn
 p9-generation = refl
 
-p10 : filledBeside .answer ≡ R.gives 1
-unfolding O.openRefusal O.openedShape O.sizesOf O.sizeOn O.tooMany O.lastInside S.sections S.product S.counted S.chunksIn S.chunksOn S.lastFits R.first T.freshState T.volumeOf T.freshStorage T.storageFits S.wellFormed S.good S.axisGood S.shapeOf S.opens E.fitting E.edited E.setDef E.put E.changed E.advanced E.solidAfter E.hashAfter E.toggled E.look S.slot S.slotAt S.distance S.over S.rest S.sectionAt S.withinAt S.cellFrom H.termOf H.splitMix H.xorShift W.mul64 L.fillCall L.fillRefusal L.fillDef L.setEach L.andThen L.boxCells L.solidCells L.planeCells L.rowCells L.boxOf L.spanning L.lowCell L.highCell L.lowZ L.highZ L.cellsIn S.clampSpot S.clampOn
+p10 : filledBeside .answer ≡ R.gives 0
+unfolding O.openRefusal O.openedShape O.sizesOf O.sizeOn O.tooMany O.lastInside S.sections S.product S.counted S.chunksIn S.chunksOn S.lastFits R.first T.freshState T.volumeOf T.freshStorage T.storageFits S.wellFormed S.good S.axisGood S.shapeOf S.opens E.fitting E.edited E.setDef E.put E.changed E.advanced E.solidAfter E.hashAfter E.toggled E.look S.slot S.slotAt S.distance S.over S.rest S.sectionAt S.withinAt S.cellFrom H.termOf H.splitMix H.xorShift W.mul64 L.fillCall L.fillRefusal L.fillDef L.setEach L.andThen L.boxCells L.solidCells L.planeCells L.rowCells L.boxOf L.spanning L.lowCell L.highCell L.lowZ L.highZ L.cellsIn L.belowSpot L.belowOn L.past
 p10 = refl
 
-p10-cell : E.look (T.shape (filledBeside .state)) (filledBeside .state .cells) (cell 1 0 0) ≡ 1
-unfolding O.openRefusal O.openedShape O.sizesOf O.sizeOn O.tooMany O.lastInside S.sections S.product S.counted S.chunksIn S.chunksOn S.lastFits R.first T.freshState T.volumeOf T.freshStorage T.storageFits S.wellFormed S.good S.axisGood S.shapeOf S.opens E.fitting E.edited E.setDef E.put E.changed E.advanced E.solidAfter E.hashAfter E.toggled E.look S.slot S.slotAt S.distance S.over S.rest S.sectionAt S.withinAt S.cellFrom H.termOf H.splitMix H.xorShift W.mul64 L.fillCall L.fillRefusal L.fillDef L.setEach L.andThen L.boxCells L.solidCells L.planeCells L.rowCells L.boxOf L.spanning L.lowCell L.highCell L.lowZ L.highZ L.cellsIn S.clampSpot S.clampOn
-p10-cell = refl
-
-p10-other : E.look (T.shape (filledBeside .state)) (filledBeside .state .cells) (cell 0 0 0) ≡ 0
-unfolding O.openRefusal O.openedShape O.sizesOf O.sizeOn O.tooMany O.lastInside S.sections S.product S.counted S.chunksIn S.chunksOn S.lastFits R.first T.freshState T.volumeOf T.freshStorage T.storageFits S.wellFormed S.good S.axisGood S.shapeOf S.opens E.fitting E.edited E.setDef E.put E.changed E.advanced E.solidAfter E.hashAfter E.toggled E.look S.slot S.slotAt S.distance S.over S.rest S.sectionAt S.withinAt S.cellFrom H.termOf H.splitMix H.xorShift W.mul64 L.fillCall L.fillRefusal L.fillDef L.setEach L.andThen L.boxCells L.solidCells L.planeCells L.rowCells L.boxOf L.spanning L.lowCell L.highCell L.lowZ L.highZ L.cellsIn S.clampSpot S.clampOn
-p10-other = refl
+p10-state : filledBeside .state ≡ standAt 0 (extent 2 1 1)
+unfolding O.openRefusal O.openedShape O.sizesOf O.sizeOn O.tooMany O.lastInside S.sections S.product S.counted S.chunksIn S.chunksOn S.lastFits R.first T.freshState T.volumeOf T.freshStorage T.storageFits S.wellFormed S.good S.axisGood S.shapeOf S.opens E.fitting E.edited E.setDef E.put E.changed E.advanced E.solidAfter E.hashAfter E.toggled E.look S.slot S.slotAt S.distance S.over S.rest S.sectionAt S.withinAt S.cellFrom H.termOf H.splitMix H.xorShift W.mul64 L.fillCall L.fillRefusal L.fillDef L.setEach L.andThen L.boxCells L.solidCells L.planeCells L.rowCells L.boxOf L.spanning L.lowCell L.highCell L.lowZ L.highZ L.cellsIn L.belowSpot L.belowOn L.past
+p10-state = refl
 
 -- ---- panels
 
@@ -168,8 +164,7 @@ trestles =
       p9-version = p9-version;
       p9-generation = p9-generation;
       p10 = p10;
-      p10-cell = p10-cell;
-      p10-other = p10-other;
+      p10-state = p10-state;
       p11 = p11;
       p11-solid = p11-solid;
       p11-last = p11-last;

@@ -69,7 +69,7 @@ unfoldable pub writeFill : Book → Lengths → Cell → Cell → ℕ → Book
 writeFill b l c d v =
     unless (fillRefusal (opens (b .shape)) (fitsBook b l) (b .shape) (b .count) c d) b (setAll b (boxCells (b .shape) (boxOf (b .shape) c d)) v)
 
--- the edits: a cell takes a finish, or every cell of a box between two corners does
+-- the edits: a cell takes a finish, or every cell of the stand in a box between two corners does
 pub data Edit : Type 0 where
   one : Cell → ℕ → Edit
   box : Cell → Cell → ℕ → Edit

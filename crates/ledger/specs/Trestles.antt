@@ -101,10 +101,9 @@ pub record Trestles : Type 0 where
   pub p9-digest : digestCall (setBack .volume) (setBack .hashes) ≡ digestCall (standAt 0 (extent 17 1 1) .volume) (standAt 0 (extent 17 1 1) .hashes)
   pub p9-version : setBack .versions ≡ 0 ∷ 2 ∷ []
   pub p9-generation : setBack .volume .generation ≡ 2
-  -- a box beside the stand: one cell, (1, 0, 0)
-  pub p10 : filledBeside .answer ≡ gives 1
-  pub p10-cell : look (shape (filledBeside .state)) (filledBeside .state .cells) (cell 1 0 0) ≡ 1
-  pub p10-other : look (shape (filledBeside .state)) (filledBeside .state .cells) (cell 0 0 0) ≡ 0
+  -- a box beside the stand, as document 02, 2.1 has it: none changed, and the whole state as it was
+  pub p10 : filledBeside .answer ≡ gives 0
+  pub p10-state : filledBeside .state ≡ standAt 0 (extent 2 1 1)
   -- one cell: 6 panels, under `Solid` none, at the last x five
   pub p11 : meshOne 0 true ≡ Meshed.panels 6
   pub p11-solid : meshOne 0 false ≡ Meshed.panels 0

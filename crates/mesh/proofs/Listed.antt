@@ -12,6 +12,7 @@ use lib.ListN.{getD, length, length-append, length-map}
 use Rattle.stand.specs.Shape.{Ranged, Shape}
 use Rattle.stand.specs.declared.Cell.{Cell}
 use Rattle.stand.specs.declared.volume.shape.Region.{Region}
+use Rattle.stand.proofs.Parts.{length-none}
 use Rattle.mesh.specs.Cover.{facesOn, seen}
 use Rattle.mesh.specs.Frame.{Lies, Wrote, frameOf, quadFrom}
 use Rattle.mesh.specs.Listed.{Listed}
@@ -84,10 +85,6 @@ module _ (beyond : Bool) (g : Shape) (look : Cell → ℕ) (r : Region) (s k : �
         ap (map (quadFrom (frameOf g r s k))) same-rects
         ∙ frame-panels g r s k ranged lies (sliceMask beyond g look r s k)
 
-none-listed : (qs : List Quad) → length qs ≤ 0 → qs ≡ []
-none-listed [] l = refl
-none-listed (q ∷ qs) l = absurd (omega arith)
-
 module _ (beyond : Bool) (g : Shape) (look : Cell → ℕ) (r : Region) (s k : ℕ) {m m₁ : List ℕ} {a : ℕ}
     (clear : (q : ℕ) → q < heightOf r s * widthOf r s → getD m q 0 ≡ 0)
     (fill : Filled m m₁ a 0 (widthOf r s) (widthOf r s) (heightOf r s) (λ u v. shown beyond g look s (cellIn g r s k u v)))
@@ -107,7 +104,7 @@ module _ (beyond : Bool) (g : Shape) (look : Cell → ℕ) (r : Region) (s k : �
       no-panels : slicePanels beyond g look r s k ≡ []
       unfolding facesOn
       no-panels =
-          none-listed (slicePanels beyond g look r s k)
+          length-none (slicePanels beyond g look r s k)
           (omega (
             arith,
             slice-few beyond g look r s l k,

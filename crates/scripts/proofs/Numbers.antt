@@ -11,9 +11,9 @@ use lib.ListN.{set}
 use Rattle.stand.specs.Fill.{boxCells, boxOf}
 use Rattle.stand.specs.Opening.{openedShape}
 use Rattle.stand.specs.Refusal.{Rule, _⇒_, first}
+use Rattle.stand.proofs.Tests.{or-left, or-right}
 use Rattle.sheet.specs.Due.{hits}
 use Rattle.sheet.specs.declared.Row.{Row}
-use Rattle.sheet.proofs.Tools.{or-left, or-right}
 use Rattle.ledger.specs.Book.{Book, setAll, setBook, unless}
 use Rattle.ledger.specs.Claim.{bookSums}
 use Rattle.interpreter.specs.declared.Call.{Call}

@@ -16,7 +16,7 @@ use Rattle.stand.specs.Storage.{Storage, joined, shape}
 use Rattle.stand.specs.declared.Cell.{Cell}
 use Rattle.stand.specs.declared.volume.Volume.{Volume}
 use Rattle.stand.proofs.Edit.{fitting-lengths}
-use Rattle.stand.proofs.Tests.{by-test}
+use Rattle.stand.proofs.Tests.{and-both, by-test}
 use Rattle.mesh.specs.Merge.{all}
 use Rattle.mesh.specs.Part.{largestSide, sectionPart}
 use Rattle.sheet.specs.Calls as C
@@ -27,7 +27,6 @@ use Rattle.sheet.specs.Row.{priced}
 use Rattle.sheet.specs.declared.Marks.{Marks}
 use Rattle.sheet.proofs.Picks.{length-wiped}
 use Rattle.sheet.proofs.Pricing.{all-same, section-largest}
-use Rattle.sheet.proofs.Tools.{and-both}
 use Rattle.ledger.specs.Book.{Book}
 use Rattle.ledger.specs.Calls.{Four, isDone}
 use Rattle.ledger.specs.Claim.{bookSums}

@@ -16,6 +16,5 @@ pub mod Sheets
 pub mod Steps
 pub mod Summing
 pub mod Sums
-pub mod Tools
 pub mod Turns
 pub mod Walked

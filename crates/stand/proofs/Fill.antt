@@ -1,212 +1,27 @@
--- Laws of boxes and fills: corners clamped, cells listed part by part, and what setting them keeps.
+-- Laws of fills: what setting cells one after another keeps, the code's loops and tests, and that a sound stand stays so.
 use mathlib.Core.Path.{_≡_, refl, sym, ap, _∙_}
-use mathlib.Core.Bool.{Bool, true, false, cond, false≢true}
-use mathlib.Core.List.{List, [], _∷_, _++_, List·Memᴰ, List·Memᴰ·append-cases, List·Memᴰ·eq-of-singleton, List·Memᴰ·head, List·Memᴰ·not-nil, List·Memᴰ·tail}
-use mathlib.Core.Logic.{⊎-elim}
-use Prim.Native.Nat.{ℕ, zero, suc, _+_, _-_, _*_, _^_, _≤_, _<_, min, max}
+use mathlib.Core.Bool.{true}
+use mathlib.Core.List.{List, [], _∷_, _++_, List·Memᴰ, List·Memᴰ·head, List·Memᴰ·tail}
+use Prim.Native.Nat.{ℕ, _+_, _-_, _*_, _^_, _≤_, _<_}
 use native.Mathlib.Omega.{arith}
-use native.Mathlib.Nat.{min-eq-left, max-eq-right, min-comm, max-comm, add-zero, add-assoc, mul-zero, mul-suc, one-mul, zero-add, le-mul-of-pos-right, mul-comm, mul-le-mul, mul-le-mul-left, mul-mul-mul-comm}
+use native.Mathlib.Nat.{add-zero, add-assoc, mul-suc, zero-add, le-mul-of-pos-right, mul-comm, mul-le-mul, mul-le-mul-left, mul-mul-mul-comm}
 use native.Mathlib.Numerals.{add-one}
-use borrow.Author.Tests.{le-ltb, lt-ltb, leb-true, leb-false}
-use lib.IntN.{ℤ, pos, negsuc, _-ℤ_, natAbs}
-use lib.ListN.{length, length-append, length-set}
-use lib.Signed.{leZ}
-use mir.Syntax.{w32}
-use mir.Val.{SFits}
-use Rattle.arith.specs.Level.{levelOf}
+use borrow.Author.Tests.{le-ltb, lt-ltb}
+use lib.ListN.{length-set}
 use Rattle.stand.specs.Edit.{Edited, Storable, changed, edited, editedOf, fitting, lastGeneration, put, setDef}
-use Rattle.stand.specs.Fill.{Fillable, Inside, Spanned, andThen, boxCells, boxOf, fillCall, fillDef, fillRefusal, highCell, highZ, lowCell, lowZ, planeCells, rowCells, setEach, solidCells, spanning, cellsIn}
+use Rattle.stand.specs.Fill.{Fillable, Inside, andThen, boxCells, boxOf, cellsIn, fillCall, fillDef, fillRefusal, setEach, solidCells}
 use Rattle.stand.specs.Refusal.{first, gives, refused}
-use Rattle.stand.specs.Shape.{Below, Ranged, Shape, Stored, cellFrom, chunksIn, chunksOn, clampAt, clampOn, clampSpot, counted, countsOf, inside, levelsOf, maxChunks, opens, pointOf, product, sections, shapeOf, slot, slotAt, wellFormed}
+use Rattle.stand.specs.Shape.{Below, Shape, Stored, cellFrom, chunksIn, chunksOn, counted, countsOf, maxChunks, opens, product, sections, shapeOf, slot, slotAt, wellFormed}
 use Rattle.stand.specs.Sound.{Sound}
 use Rattle.stand.specs.Storage.{Outcome, State, lengthsOf, outcomeOf, shape, storage, storageRules}
 use Rattle.stand.specs.declared.Cell.{Cell}
 use Rattle.stand.specs.declared.volume.Volume.{Volume}
 use Rattle.stand.specs.declared.volume.shape.Point.{Point}
 use Rattle.stand.specs.declared.volume.shape.Region.{Region}
+use Rattle.stand.proofs.Parts.{Parts, box-inside, length-none, parts-length, solids}
 use Rattle.stand.proofs.Kept.{set-sound}
 use Rattle.stand.proofs.Edit.{by-edited, put-generation, set-fitting, set-formed, set-keeps, set-shape, storable, storage-turned}
-use Rattle.stand.proofs.Levels.{clamp-law}
-use Rattle.stand.proofs.Shape.{chunks-some, formed-counts, formed-opens, goods, inside-from, sections-few, slot-at-lt, slot-from, stored}
-
--- ---- one axis of a box, by levels
-
-pub clamp-mono : (o n a b : ℕ) → a ≤ b → clampAt o n a ≤ clampAt o n b
-unfolding clampAt
-clamp-mono o n a b h = omega arith
-
--- the lower coordinate first
-pub span : (o n : ℕ) {p q : ℕ} (a b : ℕ) → a ≤ b → p ≡ clampAt o n a → q ≡ clampAt o n b → q < n → Spanned o n a b p (q - p + 1)
-span o n a b h ep eq l =
-    let m = clamp-mono o n a b h in
-    record {
-      low-is = rw (min-eq-left h) ep;
-      count-is = rw (min-eq-left h, max-eq-right h) (rw (ep, eq) refl);
-      some = omega arith;
-      inside = omega arith;
-    }
-
--- the order of the corners is free
-pub span-swap : {o n low count : ℕ} (a b : ℕ) → Spanned o n b a low count → Spanned o n a b low count
-span-swap a b s = record {
-  low-is = rw min-comm (s .low-is);
-  count-is = rw (min-comm a b, max-comm a b) (s .count-is);
-  some = s .some;
-  inside = s .inside;
-}
-
--- ---- corners ordered
-
--- by levels, whichever way the test goes
-orders : (t : Bool) (a b : ℤ) → SFits w32 a → SFits w32 b → leZ a b ≡ t → (levelOf (cond t a b) ≡ min (levelOf a) (levelOf b)) × (levelOf (cond t b a) ≡ max (levelOf a) (levelOf b))
-orders true (pos a) (pos b) f g e = let h = leb-true a b e in omega arith
-orders true (pos a) (negsuc b) f g e = absurd (false≢true e)
-orders true (negsuc a) (pos b) f g e = omega arith
-orders true (negsuc a) (negsuc b) f g e = let h = leb-true b a e in omega (arith, f .sfits, g .sfits)
-orders false (pos a) (pos b) f g e = let h = leb-false a b e in omega arith
-orders false (pos a) (negsuc b) f g e = omega arith
-orders false (negsuc a) (pos b) f g e = absurd (false≢true (sym e))
-orders false (negsuc a) (negsuc b) f g e = let h = leb-false b a e in omega (arith, f .sfits, g .sfits)
-
-pick-fits : (t : Bool) {a b : ℤ} → SFits w32 a → SFits w32 b → SFits w32 (cond t a b)
-pick-fits true f g = f
-pick-fits false f g = g
-
-module _ (a b : ℤ) (fa : SFits w32 a) (fb : SFits w32 b) where
-  pub low-level : levelOf (lowZ a b) ≡ min (levelOf a) (levelOf b)
-  unfolding lowZ
-  low-level = orders (leZ a b) a b fa fb refl .0
-
-  pub high-level : levelOf (highZ a b) ≡ max (levelOf a) (levelOf b)
-  unfolding highZ
-  high-level = orders (leZ a b) a b fa fb refl .1
-
-  low-fits : SFits w32 (lowZ a b)
-  unfolding lowZ
-  low-fits = pick-fits (leZ a b) fa fb
-
-  high-fits : SFits w32 (highZ a b)
-  unfolding highZ
-  high-fits = pick-fits (leZ a b) fb fa
-
--- one axis of the box
-module _ (o : ℤ) (n : ℕ) (a b : ℤ) (fo : SFits w32 o) (fa : SFits w32 a) (fb : SFits w32 b) where
-  low-clamp : clampOn o n (lowZ a b) ≡ clampAt (levelOf o) n (min (levelOf a) (levelOf b))
-  low-clamp = clamp-law o n (lowZ a b) fo (low-fits a b fa fb) ∙ ap (clampAt (levelOf o) n) (low-level a b fa fb)
-
-  high-clamp : clampOn o n (highZ a b) ≡ clampAt (levelOf o) n (max (levelOf a) (levelOf b))
-  high-clamp = clamp-law o n (highZ a b) fo (high-fits a b fa fb) ∙ ap (clampAt (levelOf o) n) (high-level a b fa fb)
-
-  axis-box : {lo ln la lb low count : ℕ} → lo ≡ levelOf o → ln ≡ n → la ≡ levelOf a → lb ≡ levelOf b → Spanned lo ln la lb low count
-      → (low ≡ clampOn o n (lowZ a b)) × (count ≡ clampOn o n (highZ a b) - clampOn o n (lowZ a b) + 1)
-  axis-box eo en ea eb s = (
-    s .low-is ∙ (λ i. clampAt (eo i) (en i) (min (ea i) (eb i))) ∙ sym low-clamp,
-    s .count-is
-        ∙ (λ i. clampAt (eo i) (en i) (max (ea i) (eb i)) - clampAt (eo i) (en i) (min (ea i) (eb i)) + 1)
-        ∙ (λ i. sym high-clamp i - sym low-clamp i + 1),
-  )
-
--- and the three
-pub boxed : (g : Shape) (a b : Cell) {o n p q : Point} → Ranged (g .origin) → Ranged a → Ranged b
-    → o ≡ levelsOf (g .origin) → n ≡ g .size → p ≡ levelsOf a → q ≡ levelsOf b
-    → {lx ly lz cx cy cz : ℕ} → Spanned (o .x) (n .x) (p .x) (q .x) lx cx → Spanned (o .y) (n .y) (p .y) (q .y) ly cy → Spanned (o .z) (n .z) (p .z) (q .z) lz cz
-    → _≡_ {A = Region} (record { low = pointOf lx ly lz; count = pointOf cx cy cz }) (boxOf g a b)
-unfolding boxOf spanning clampSpot lowCell highCell
-boxed g a b ro ra rb eo en ea eb x y z =
-    let bx = axis-box _ _ _ _ (ro .x) (ra .x) (rb .x) (λ j. eo j .x) (λ j. en j .x) (λ j. ea j .x) (λ j. eb j .x) x in
-    let by = axis-box _ _ _ _ (ro .y) (ra .y) (rb .y) (λ j. eo j .y) (λ j. en j .y) (λ j. ea j .y) (λ j. eb j .y) y in
-    let bz = axis-box _ _ _ _ (ro .z) (ra .z) (rb .z) (λ j. eo j .z) (λ j. en j .z) (λ j. ea j .z) (λ j. eb j .z) z in
-    λ i. record { low = pointOf (bx .0 i) (by .0 i) (bz .0 i); count = pointOf (bx .1 i) (by .1 i) (bz .1 i) }
-
--- the sizes of a header that passes are at least 1
-pub sizes-some : (v : Volume) {n : Point} → wellFormed v ≡ true → n ≡ countsOf (v .size) → (1 ≤ n .x) × (1 ≤ n .y) × (1 ≤ n .z)
-unfolding wellFormed
-sizes-some v ok e =
-    let g = goods _ _ _ ok in
-    rw e (g .x .some, g .y .some, g .z .some)
-
--- ---- a box is inside
-
-clamp-cond : (t : Bool) (m n : ℕ) → 1 ≤ n → cond t (min m (n - 1)) 0 < n
-clamp-cond true m n h = omega arith
-clamp-cond false m n h = omega arith
-
-pub clamp-lt : (o : ℤ) (n : ℕ) (c : ℤ) → 1 ≤ n → clampOn o n c < n
-unfolding clampOn
-clamp-lt o n c h = clamp-cond (leZ (pos 0) (c -ℤ o)) (natAbs (c -ℤ o)) n h
-
-span-in : (n p q : ℕ) → p < n → q < n → p + (q - p + 1) ≤ n
-span-in n p q hp hq = omega arith
-
-pub box-in : (g : Shape) (a b : Cell) → opens g ≡ true → Inside g (boxOf g a b)
-unfolding opens boxOf spanning clampSpot
-box-in g a b e =
-    let k = goods _ _ _ e in
-    record {
-      some-x = omega arith;
-      some-y = omega arith;
-      some-z = omega arith;
-      x = span-in _ _ _ (clamp-lt _ _ _ (k .x .some)) (clamp-lt _ _ _ (k .x .some));
-      y = span-in _ _ _ (clamp-lt _ _ _ (k .y .some)) (clamp-lt _ _ _ (k .y .some));
-      z = span-in _ _ _ (clamp-lt _ _ _ (k .z .some)) (clamp-lt _ _ _ (k .z .some));
-    }
-
--- ---- cells part by part
-
--- lists of cells that grow by w at each step: rows by a cell, planes by a row, solids by a plane
-pub record Parts (all part : Shape → ℕ → List Cell) (w : ℕ) : Type 0 where
-  pub none : (g : Shape) → all g 0 ≡ []
-  pub more : (g : Shape) (i : ℕ) → all g (suc i) ≡ all g i ++ part g i
-  pub each : (g : Shape) (i : ℕ) → length (part g i) ≡ w
-
-module _ {all part : Shape → ℕ → List Cell} {w : ℕ} (r : Parts all part w) (g : Shape) where
-  pub parts-length : (n : ℕ) → length (all g n) ≡ w * n
-  parts-length zero = ap length (r .none g) ∙ sym (mul-zero w)
-  parts-length (suc n) =
-      ap length (r .more g n) ∙ length-append (all g n) (part g n)
-      ∙ (λ i. parts-length n i + r .each g n i) ∙ sym (mul-suc w n)
-
-  -- what holds of each part's cells holds of all
-  pub parts-hold : (Q : Cell → Type 0) (n : ℕ) → ((i : ℕ) → i < n → (c : Cell) → List·Memᴰ c (part g i) → Q c) → (c : Cell) → List·Memᴰ c (all g n) → Q c
-  parts-hold Q zero h c m = absurd (List·Memᴰ·not-nil (rw (r .none g) at m))
-  parts-hold Q (suc n) h c m =
-      ⊎-elim (parts-hold Q n (λ i l. h i (omega arith)) c) (h n (omega arith) c)
-      (List·Memᴰ·append-cases (all g n) (rw (r .more g n) at m))
-
-pub rows : (p : Point) → Parts (λ (g : Shape). rowCells g p) (λ (g : Shape) (i : ℕ). cellFrom g (pointOf (p .x + i) (p .y) (p .z)) ∷ []) 1
-unfolding rowCells
-rows p = record { none = λ g. refl; more = λ g i. refl; each = λ g i. refl }
-
-pub row-length : (g : Shape) (p : Point) (n : ℕ) → length (rowCells g p n) ≡ n
-row-length g p n = parts-length (rows p) g n ∙ one-mul n
-
-pub planes : (p : Point) (n : ℕ) → Parts (λ (g : Shape). planeCells g p n) (λ (g : Shape) (i : ℕ). rowCells g (pointOf (p .x) (p .y + i) (p .z)) n) n
-unfolding planeCells
-planes p n = record { none = λ g. refl; more = λ g i. refl; each = λ g i. row-length g _ n }
-
-pub solids : (p : Point) (n m : ℕ) → Parts (λ (g : Shape). solidCells g p n m) (λ (g : Shape) (i : ℕ). planeCells g (pointOf (p .x) (p .y) (p .z + i)) n m) (n * m)
-unfolding solidCells
-solids p n m = record { none = λ g. refl; more = λ g i. refl; each = λ g i. parts-length (planes _ n) g m }
-
-pub box-length : (g : Shape) (k : Region) → length (boxCells g k) ≡ cellsIn k
-unfolding boxCells cellsIn product
-box-length g k = parts-length (solids (k .low) (k .count .x) (k .count .y)) g (k .count .z)
-
--- ---- the cells of a box are inside
-
-module _ (g : Shape) where
-  row-inside : (p : Point) (n : ℕ) → p .x + n ≤ g .size .x → p .y < g .size .y → p .z < g .size .z → (c : Cell) → List·Memᴰ c (rowCells g p n) → inside g c ≡ true
-  row-inside p n x y z = parts-hold (rows p) g (λ c. inside g c ≡ true) n (λ i l c m. rw (List·Memᴰ·eq-of-singleton m) (inside-from g (pointOf (p .x + i) (p .y) (p .z)) (record { x = omega arith; y = y; z = z })))
-
-  plane-inside : (p : Point) (n m : ℕ) → p .x + n ≤ g .size .x → p .y + m ≤ g .size .y → p .z < g .size .z → (c : Cell) → List·Memᴰ c (planeCells g p n m) → inside g c ≡ true
-  plane-inside p n m x y z = parts-hold (planes p n) g (λ c. inside g c ≡ true) m (λ i l. row-inside (pointOf (p .x) (p .y + i) (p .z)) n x (omega arith) z)
-
-  pub cells-inside : (k : Region) → Inside g k → (c : Cell) → List·Memᴰ c (boxCells g k) → inside g c ≡ true
-  unfolding boxCells
-  cells-inside k h = parts-hold (solids (k .low) (k .count .x) (k .count .y)) g (λ c. inside g c ≡ true) (k .count .z) (λ i l. plane-inside (pointOf (k .low .x) (k .low .y) (k .low .z + i)) (k .count .x) (k .count .y) (h .x) (h .y) (omega (arith, h .z)))
-
-  pub box-inside : (a b c : Cell) → opens g ≡ true → List·Memᴰ c (boxCells g (boxOf g a b)) → inside g c ≡ true
-  box-inside a b c e = cells-inside (boxOf g a b) (box-in g a b e) c
+use Rattle.stand.proofs.Shape.{chunks-some, formed-counts, formed-opens, goods, sections-few, slot-at-lt, slot-from, stored}
 
 -- ---- setting cells one after another
 
@@ -389,7 +204,10 @@ box-fits v k ok h =
     let o = formed-opens v ok in
     let f = box-few (shapeOf v) k o h in
     let m = sections-few (shapeOf v) o in
-    let p = le-mul-of-pos-right (k .count .x * k .count .y) (h .some-z) in
+    let n = sizes-few (shapeOf v) o in
+    let x : k .count .x ≤ 16 * maxChunks = omega (arith, h .x, n .x) in
+    let y : k .count .y ≤ 16 * maxChunks = omega (arith, h .y, n .y) in
+    let p = mul-le-mul x y in
     (omega arith, omega arith)
 
 -- where generations remain for all its cells, it can be filled
@@ -411,6 +229,14 @@ module _ (s : State) (a b : Cell) (v : ℕ) (ok : wellFormed (s .volume) ≡ tru
   unfolding fillCall fillRefusal first edited fillDef cellsIn product boxCells
   fill-done h d = rw (ok, fit, ← e, le-ltb _ _ h) (ap (λ (f : Edited). outcomeOf (gives (f .count)) (f .state)) d)
 
+  -- nothing in common: no cell changed, nothing written
+  pub fill-empty : k .count .x * k .count .y * k .count .z ≡ 0 → outcomeOf (gives 0) s ≡ fillCall s a b v
+  unfolding setEach
+  fill-empty h =
+      let cs = solidCells (shape s) (k .low) (k .count .x) (k .count .y) (k .count .z) in
+      let n = parts-length (solids (k .low) (k .count .x) (k .count .y)) (shape s) (k .count .z) ∙ h in
+      fill-done (omega arith) (ap (λ (ds : List Cell). setEach (editedOf 0 s) ds v) (sym (length-none cs n)))
+
 -- ---- a sound stand stays so
 
 pub fill-sound : (s : State) (a b : Cell) (v : ℕ) → Sound s → Sound (fillDef s a b v .state)
@@ -418,7 +244,7 @@ unfolding fillDef
 fill-sound s a b v q =
     each-keeps (λ t. Sound t × (shape t ≡ shape s)) v (boxCells (shape s) (boxOf (shape s) a b))
     (λ t c m p. (
-      set-sound t c v (p .0) (rw (p .1) (box-inside (shape s) a b c (formed-opens (s .volume) (q .formed)) m)),
+      set-sound t c v (p .0) (rw (p .1) (box-inside (shape s) a b c m)),
       set-shape t c v ∙ p .1,
     ))
     (editedOf 0 s) (q, refl) .0

@@ -1,17 +1,18 @@
--- Tests over ℤ as tests of levels: last cells, distances, clamping.
+-- Tests over ℤ as tests of levels: last cells, distances, clamping, cells below a coordinate.
 use mathlib.Core.Path.{_≡_, refl, sym, ap, _∙_}
 use mathlib.Core.Bool.{Bool, true, false, cond}
 use Prim.Native.Nat.{ℕ, zero, suc, _+_, _-_, _≤_, _<_, min}
 use native.Mathlib.Omega.{arith}
 use borrow.Author.Tests.{le-ltb, le-leb, lt-leb, ltb-true, ltb-false, leb-true, leb-false}
 use lib.Dec.{leb, ltb, leb·zero}
-use lib.IntN.{ℤ, pos, negsuc, _+ℤ_, _-ℤ_, subℕ, natAbs}
+use lib.IntN.{ℤ, pos, negsuc, _+ℤ_, _-ℤ_, subℕ, natAbs, negℤ, sucℤ, +ℤ-assoc, +ℤ-comm, +ℤ-one}
 use lib.Signed.{ltZ, leZ}
 use mir.Syntax.{w32}
 use mir.Val.{SFits}
 use Rattle.arith.proofs.Signed.{sub-ge, sub-lt}
 use Rattle.arith.specs.Level.{levelOf}
 use Rattle.arith.specs.Saturate.{saturate}
+use Rattle.stand.specs.Fill.{belowAt, belowOn}
 use Rattle.stand.specs.Shape.{axisAt, axisGood, clampAt, clampOn, insideOn, lastFits}
 
 -- ---- two tests that hold of the same numbers
@@ -91,17 +92,46 @@ module _ (o : ℤ) (n : ℕ) (c : ℤ) (fo : SFits w32 o) (fc : SFits w32 c) whe
     pub on-distance : natAbs (c -ℤ o) ≡ levelOf c - levelOf o
     on-distance = rw (diff-ge c o fc fo h)
 
+-- ---- a coordinate clamped, and how many cells lie below one
+
+past-sub : (c o : ℤ) → (c +ℤ pos 1) -ℤ o ≡ (c -ℤ o) +ℤ pos 1
+past-sub c o = +ℤ-assoc c (pos 1) (negℤ o) ∙ ap (λ (z : ℤ). c +ℤ z) (+ℤ-comm (pos 1) (negℤ o)) ∙ sym (+ℤ-assoc c (negℤ o) (pos 1))
+
+-- of n cells one more lies below the number just past z than below z, as far as there are so many
+below-past : (n : ℕ) (z : ℤ) → cond (leZ (pos 0) (sucℤ z)) (min (natAbs (sucℤ z)) n) 0 ≡ cond (leZ (pos 0) z) (min (natAbs z + 1) n) 0
+below-past n (pos m) = rw (leb·zero m, leb·zero (suc m)) (omega arith)
+below-past n (negsuc zero) = omega arith
+below-past n (negsuc (suc m)) = refl
+
+pub below-next : (o : ℤ) (n : ℕ) (c : ℤ) → belowOn o n (c +ℤ pos 1) ≡ cond (leZ (pos 0) (c -ℤ o)) (min (natAbs (c -ℤ o) + 1) n) 0
+unfolding belowOn
+below-next o n c =
+    ap (λ (z : ℤ). cond (leZ (pos 0) z) (min (natAbs z) n) 0) (past-sub c o ∙ +ℤ-one (c -ℤ o)) ∙ below-past n (c -ℤ o)
+
+module _ (o : ℤ) (n : ℕ) (c : ℤ) (fo : SFits w32 o) (fc : SFits w32 c) where
+  -- m of the distance from the origin on, 0 below it
+  from-origin : (m : ℕ → ℕ) (e : ℕ) → (levelOf c < levelOf o → e ≡ 0) → (levelOf o ≤ levelOf c → m (levelOf c - levelOf o) ≡ e) → cond (leZ (pos 0) (c -ℤ o)) (m (natAbs (c -ℤ o))) 0 ≡ e
+  from-origin m e low high = by (leb (levelOf o) (levelOf c)) refl
+    where
+      by : (t : Bool) → leb (levelOf o) (levelOf c) ≡ t → cond (leZ (pos 0) (c -ℤ o)) (m (natAbs (c -ℤ o))) 0 ≡ e
+      by true p =
+          let h = leb-true (levelOf o) (levelOf c) p in
+          rw (diff-ge c o fc fo h) (rw (leb·zero (levelOf c - levelOf o)) (high h))
+      by false p =
+          let h = leb-false (levelOf o) (levelOf c) p in
+          rw (diff-lt c o fc fo h) (sym (low h))
+
   pub clamp-law : clampOn o n c ≡ clampAt (levelOf o) n (levelOf c)
   unfolding clampOn clampAt
-  clamp-law = by (leb (levelOf o) (levelOf c)) refl
-    where
-      by : (t : Bool) → leb (levelOf o) (levelOf c) ≡ t → cond (leZ (pos 0) (c -ℤ o)) (min (natAbs (c -ℤ o)) (n - 1)) 0 ≡ min (levelOf c - levelOf o) (n - 1)
-      by true e =
-          let h = leb-true (levelOf o) (levelOf c) e in
-          rw (diff-ge c o fc fo h) (rw (leb·zero (levelOf c - levelOf o)))
-      by false e =
-          let h = leb-false (levelOf o) (levelOf c) e in
-          rw (diff-lt c o fc fo h) (omega arith)
+  clamp-law = from-origin (λ d. min d (n - 1)) _ (λ h. omega arith) (λ h. refl)
+
+  pub below-law : belowOn o n c ≡ belowAt (levelOf o) n (levelOf c)
+  unfolding belowOn belowAt
+  below-law = from-origin (λ d. min d n) _ (λ h. omega arith) (λ h. refl)
+
+  pub past-law : belowOn o n (c +ℤ pos 1) ≡ belowAt (levelOf o) n (levelOf c + 1)
+  unfolding belowAt
+  past-law = below-next o n c ∙ from-origin (λ d. min (d + 1) n) _ (λ h. omega arith) (λ h. omega arith)
 
 -- ---- sums that stay in i32
 

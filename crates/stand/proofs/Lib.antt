@@ -1,4 +1,7 @@
 -- Laws of `stand`.
+pub mod Box
+pub mod Cellwise
+pub mod Common
 pub mod Edit
 pub mod Feed
 pub mod Fill
@@ -6,8 +9,10 @@ pub mod Formed
 pub mod Held
 pub mod Kept
 pub mod Levels
+pub mod Misses
 pub mod Opened
 pub mod Opening
+pub mod Parts
 pub mod Read
 pub mod Refusal
 pub mod Shape

@@ -4,7 +4,7 @@ use mathlib.Core.Bool.{Bool, true, false, false≢true}
 use mathlib.Core.List.{List, [], _∷_, _++_}
 use Prim.Native.Nat.{ℕ, zero, suc}
 use native.Mathlib.Omega.{arith}
-use Rattle.stand.specs.Refusal.{Rule, _⇒_, answer, first, gives, refused}
+use Rattle.stand.specs.Refusal.{Answer, Rule, _⇒_, answer, first, gives, refused}
 
 -- a number that is not 0 is the answer
 pub turned : {A : Type 0} (n : ℕ) (a : A) → (n ≡ 0 → ⊥) → refused n ≡ answer n a
@@ -26,6 +26,10 @@ pub given-by : {A : Type 0} (m : ℕ) (a v : A) → gives v ≡ answer m a → (
 unfolding answer
 given-by zero a v e = (refl, (cc))
 given-by (suc m) a v e = let z : _≡_ {A = ℕ} 0 1 = cc in absurd (omega arith)
+
+-- no refusal gives a value
+pub never-given : {A : Type 0} {n : ℕ} {a : A} → _≡_ {A = Answer A} (refused n) (gives a) → ⊥
+never-given e = let z : _≡_ {A = ℕ} 0 1 = cc in omega arith
 
 -- where the first part of a table applies, the whole gives its number
 pub first-part : (rs qs : List Rule) → (first rs ≡ 0 → ⊥) → first (rs ++ qs) ≡ first rs

@@ -1,20 +1,23 @@
--- Filling a box: document 01, 'The stand' and refusals 3, 4 and 6.
+-- Filling a box: document 01, 'The stand' and refusals 3, 4 and 6; document 02, 2.1.
 use Prim.Native.Nat.{ℕ, zero, suc, _+_, _-_, _*_, _≤_, min, max}
 use mathlib.Core.Path.{_≡_}
-use mathlib.Core.Bool.{Bool, true, cond, not}
+use mathlib.Core.Bool.{Bool, true, cond, _&&_, _||_, not}
 use mathlib.Core.List.{List, [], _∷_, _++_}
-use lib.Dec.{ltb}
-use lib.IntN.{ℤ}
-use lib.Signed.{leZ}
+use lib.Dec.{eqb, ltb}
+use lib.IntN.{ℤ, pos, _+ℤ_, _-ℤ_, natAbs}
+use lib.Signed.{leZ, ltZ}
+use Rattle.stand.specs.Cells.{cellOf}
 use Rattle.stand.specs.Edit.{Edited, edited, editedOf, fitting, lastGeneration, setDef}
 use Rattle.stand.specs.Refusal.{_⇒_, first}
-use Rattle.stand.specs.Shape.{Shape, cellFrom, clampAt, clampSpot, pointOf, product, wellFormed}
+use Rattle.stand.specs.Shape.{Shape, cellFrom, pointOf, product, wellFormed}
 use Rattle.stand.specs.Storage.{Outcome, State, shape}
 use Rattle.stand.specs.declared.Cell.{Cell}
+use Rattle.stand.specs.declared.volume.shape.Common.{Common}
+use Rattle.stand.specs.declared.volume.shape.Common.the-variants as C
 use Rattle.stand.specs.declared.volume.shape.Region.{Region}
 use Rattle.stand.specs.declared.volume.shape.Point.{Point}
 
--- ---- the box
+-- ---- the box between two corners
 
 -- corners ordered
 unfoldable pub lowZ : ℤ → ℤ → ℤ
@@ -29,13 +32,46 @@ lowCell a b = record { x = lowZ (a .x) (b .x); y = lowZ (a .y) (b .y); z = lowZ 
 unfoldable pub highCell : Cell → Cell → Cell
 highCell a b = record { x = highZ (a .x) (b .x); y = highZ (a .y) (b .y); z = highZ (a .z) (b .z) }
 
--- a box by where it starts, as distances from the origin, and how many cells it has along each axis: from p to q, both in it
-unfoldable pub spanning : Point → Point → Region
-spanning p q = record { low = p; count = pointOf (q .x - p .x + 1) (q .y - p .y + 1) (q .z - p .z + 1) }
+-- in the box: between the corners on each axis, both included
+unfoldable pub betweenOn : ℤ → ℤ → ℤ → Bool
+betweenOn a b c = leZ (lowZ a b) c && leZ c (highZ a b)
 
--- corners ordered, then clamped to the stand
+unfoldable pub between : Cell → Cell → Cell → Bool
+between a b c = betweenOn (a .x) (b .x) (c .x) && (betweenOn (a .y) (b .y) (c .y) && betweenOn (a .z) (b .z) (c .z))
+
+-- ---- the common part of box and stand: document 02, 2.1
+
+-- none, document 02's 'wholly beside it': on one axis or more the box lies below the stand's first cell or past its last
+unfoldable pub missesOn : ℤ → ℕ → ℤ → ℤ → Bool
+missesOn o n a b = ltZ (highZ a b) o || leZ (o +ℤ pos n) (lowZ a b)
+
+unfoldable pub misses : Shape → Cell → Cell → Bool
+misses g a b =
+    missesOn (g .origin .x) (g .size .x) (a .x) (b .x)
+    || (missesOn (g .origin .y) (g .size .y) (a .y) (b .y) || missesOn (g .origin .z) (g .size .z) (a .z) (b .z))
+
+-- how many of n cells from o on lie below coordinate c
+unfoldable pub belowOn : ℤ → ℕ → ℤ → ℕ
+belowOn o n c = cond (leZ (pos 0) (c -ℤ o)) (min (natAbs (c -ℤ o)) n) 0
+
+unfoldable pub belowSpot : Shape → Cell → Point
+belowSpot g c =
+    pointOf
+    (belowOn (g .origin .x) (g .size .x) (c .x))
+    (belowOn (g .origin .y) (g .size .y) (c .y))
+    (belowOn (g .origin .z) (g .size .z) (c .z))
+
+-- the coordinates just past a cell's
+unfoldable pub past : Cell → Cell
+past c = cellOf (c .x +ℤ pos 1) (c .y +ℤ pos 1) (c .z +ℤ pos 1)
+
+-- a region by where it starts, as distances from the origin, and how many cells it has along each axis, which may be none: from p up to q, q not in it
+unfoldable pub spanning : Point → Point → Region
+spanning p q = record { low = p; count = pointOf (q .x - p .x) (q .y - p .y) (q .z - p .z) }
+
+-- the common part as a region: the cells that lie both in the box and in the stand
 unfoldable pub boxOf : Shape → Cell → Cell → Region
-boxOf g a b = spanning (clampSpot g (lowCell a b)) (clampSpot g (highCell a b))
+boxOf g a b = spanning (belowSpot g (lowCell a b)) (belowSpot g (past (highCell a b)))
 
 unfoldable pub cellsIn : Region → ℕ
 cellsIn k = product (k .count)
@@ -73,7 +109,7 @@ setEach e (c ∷ cs) v = setEach (andThen (e .count) (setDef (e .state) c v)) cs
 unfoldable pub fillDef : State → Cell → Cell → ℕ → Edited
 fillDef s a b v = setEach (editedOf 0 s) (boxCells (shape s) (boxOf (shape s) a b)) v
 
--- what turns a fill back; the clamped box's cells count, changed or not
+-- what turns a fill back; the cells of the common part count, changed or not
 unfoldable pub fillRefusal : Bool → Bool → Shape → ℕ → Cell → Cell → ℕ
 fillRefusal formed fits g generation a b =
     first
@@ -87,14 +123,20 @@ fillCall s a b v =
 
 -- ---- for the code
 
--- one axis of a box by levels: from the lower coordinate to the higher, clamped
-pub record Spanned (o n a b low count : ℕ) : Type 0 where
-  pub low-is : low ≡ clampAt o n (min a b)
-  pub count-is : count ≡ clampAt o n (max a b) - clampAt o n (min a b) + 1
-  pub some : 1 ≤ count
-  pub inside : low + count ≤ n
+-- the cells below a coordinate, by levels
+unfoldable pub belowAt : ℕ → ℕ → ℕ → ℕ
+belowAt o n c = min (c - o) n
 
--- a box that can be filled
+-- one axis of the common part by levels: the cells from the lower coordinate to the higher, both in it, of n cells from o on
+pub record Spanned (o n a b low count : ℕ) : Type 0 where
+  pub low-is : low ≡ belowAt o n (min a b)
+  pub count-is : count ≡ belowAt o n (max a b + 1) - low
+
+-- the common part, where there is one
+unfoldable pub commonOf : Shape → Cell → Cell → Common
+commonOf g a b = cond (eqb (cellsIn (boxOf g a b)) 0) C.None (C.Is (boxOf g a b))
+
+-- a region that can be filled
 pub record Fillable (s : State) (p : Point) (n m l : ℕ) : Type 0 where
   pub formed : wellFormed (s .volume) ≡ true
   pub fits : fitting s ≡ true
@@ -103,11 +145,8 @@ pub record Fillable (s : State) (p : Point) (n m l : ℕ) : Type 0 where
   pub z : p .z + l ≤ shape s .size .z
   pub left : s .volume .generation + n * m * l ≤ lastGeneration
 
--- a box inside a shape, not empty
+-- a region inside a shape
 pub record Inside (g : Shape) (k : Region) : Type 0 where
-  pub some-x : 1 ≤ k .count .x
-  pub some-y : 1 ≤ k .count .y
-  pub some-z : 1 ≤ k .count .z
   pub x : k .low .x + k .count .x ≤ g .size .x
   pub y : k .low .y + k .count .y ≤ g .size .y
   pub z : k .low .z + k .count .z ≤ g .size .z

@@ -1,11 +1,10 @@
 // Filling a box.
 ghost use mathlib.Core.Path.{_≡_};
-ghost use mathlib.Core.Bool.{true};
-ghost use Prim.Native.Nat.{_<_, _≤_, _+_, _*_};
+ghost use Prim.Native.Nat.{_<_, _≤_, _*_};
 ghost use Rattle.stand.specs.Answer.{numberAnswer};
 ghost use Rattle.stand.specs.Edit.{editedOf, setDef};
-ghost use Rattle.stand.specs.Fill.{Fillable, Inside, Spanned, boxOf, fillCall, planeCells, rowCells, setEach, solidCells};
-ghost use Rattle.stand.specs.Shape.{cellFrom, shapeOf, wellFormed};
+ghost use Rattle.stand.specs.Fill.{Fillable, Spanned, belowAt, commonOf, fillCall, planeCells, rowCells, setEach, solidCells};
+ghost use Rattle.stand.specs.Shape.{cellFrom, shapeOf};
 ghost use Rattle.stand.specs.Storage.{outcomeOf, stateOf};
 use crate::Cell;
 use crate::Voxel;
@@ -14,45 +13,58 @@ use crate::volume::answer::FillDone;
 use crate::volume::answer::NumberAnswer;
 use crate::volume::edit::Edit;
 use crate::volume::edit::put_at;
+use crate::volume::shape::Common;
 use crate::volume::shape::Point;
 use crate::volume::shape::Region;
-use crate::volume::shape::clamp_on;
 use crate::volume::shape::counts;
 use crate::volume::shape::levels;
 use crate::volume::shape::slot_at;
 use crate::volume::storage::storage_code;
 
-// One axis of a box.
+// One axis of a region.
 pub(crate) struct Span {
     pub low: u64,
     pub count: u64,
 }
 
-// From the lower of two coordinates to the higher, both clamped.
+// How many of n cells from o on lie below c, by levels.
+fn below_on(o: u64, n: u64, c: u64) -> u64
+    ensures { λ r. ⌜ r ≡ belowAt o n c ⌝ }
+{
+    if c < o {
+        return 0;
+    }
+    let d = c - o;
+    if d < n {
+        return d;
+    }
+    n
+}
+
+// The cells from the lower of two coordinates to the higher, both in it, of n cells from o on, by levels.
 fn span_on(o: u64, n: u64, a: u64, b: u64) -> Span
-    requires { ⌜ 1 ≤ n ⌝ }
+    requires { ⌜ (a < 4294967296) × (b < 4294967296) ⌝ }
     ensures { λ r. ⌜ Spanned o n a b (r .low) (r .count) ⌝ }
 {
     if a <= b {
-        let p = clamp_on(o, n, a);
-        let q = clamp_on(o, n, b);
+        let p = below_on(o, n, a);
+        let q = below_on(o, n, b + 1);
         return Span {
             low: p,
-            count: q - p + 1,
+            count: q - p,
         };
     }
-    let p = clamp_on(o, n, b);
-    let q = clamp_on(o, n, a);
+    let p = below_on(o, n, b);
+    let q = below_on(o, n, a + 1);
     Span {
         low: p,
-        count: q - p + 1,
+        count: q - p,
     }
 }
 
-// The box between two corners, clamped to the stand.
-fn box_of(v: Volume, a: Cell, b: Cell) -> Region
-    requires { ⌜ wellFormed v ≡ true ⌝ }
-    ensures { λ r. ⌜ (r ≡ boxOf (shapeOf v) a b) × Inside (shapeOf v) r ⌝ }
+// The common part of the box between two corners and the stand.
+fn box_of(v: Volume, a: Cell, b: Cell) -> Common
+    ensures { λ r. ⌜ r ≡ commonOf (shapeOf v) a b ⌝ }
 {
     let origin = v.origin;
     let size = v.size;
@@ -61,8 +73,17 @@ fn box_of(v: Volume, a: Cell, b: Cell) -> Region
     let p = levels(a);
     let q = levels(b);
     let x = span_on(o.x, n.x, p.x, q.x);
+    if x.count == 0 {
+        return Common::None;
+    }
     let y = span_on(o.y, n.y, p.y, q.y);
+    if y.count == 0 {
+        return Common::None;
+    }
     let z = span_on(o.z, n.z, p.z, q.z);
+    if z.count == 0 {
+        return Common::None;
+    }
     let low = Point {
         x: x.low,
         y: y.low,
@@ -73,7 +94,7 @@ fn box_of(v: Volume, a: Cell, b: Cell) -> Region
         y: y.count,
         z: z.count,
     };
-    Region { low, count }
+    Common::Is(Region { low, count })
 }
 
 // The cell at distances d takes a finish.
@@ -211,7 +232,7 @@ fn done(answer: NumberAnswer, volume: Volume) -> FillDone
 }
 
 impl Volume {
-    // Every cell of the box between two corners, clamped to the stand, takes a finish. Rules out a box that is cut to the stand, and one filled x outermost.
+    // Every cell that lies both in the box between two corners and in the stand takes a finish, and the cells changed are answered; refuses by 3, 4 and 6. Rules out border cells filled by a box beside the stand, and a box filled x outermost.
     pub fn fill(
         self,
         cells: &mut [u16],
@@ -236,7 +257,9 @@ impl Volume {
         if code != 0 {
             return done(NumberAnswer::Refused(code), self);
         }
-        let k = box_of(self, from, to);
+        let Common::Is(k) = box_of(self, from, to) else {
+            return done(NumberAnswer::Is(0), self);
+        };
         let p = k.low;
         let n = k.count.x;
         let m = k.count.y;

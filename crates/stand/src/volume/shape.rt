@@ -20,10 +20,16 @@ pub struct Point {
     pub z: u64,
 }
 
-// A box: its lowest cell as distances from the origin, and its cells along each axis.
+// A region: where it starts, as distances from the origin, and its cells along each axis, which may be none.
 pub struct Region {
     pub low: Point,
     pub count: Point,
+}
+
+// The common part of a box and a stand.
+pub enum Common {
+    Is(Region),
+    None,
 }
 
 // A distance from the origin along one axis.

@@ -8,8 +8,8 @@ use Prim.Native.Nat.{ℕ, _-_, _≤_, _<_}
 use native.Mathlib.Omega.{arith}
 use Rattle.stand.specs.Feed.{changedOf}
 use Rattle.stand.specs.Shape.{counted, sections, shapeOf}
+use Rattle.stand.proofs.Tests.{not-both}
 use Rattle.sheet.specs.Turn.{stepTo}
-use Rattle.sheet.proofs.Tools.{not-both}
 use Rattle.sheet.proofs.Walked.{due-at, not-due}
 use Rattle.sheet.proofs.due.due.Statement.{statement}
 use Rattle.sheet.proofs.due.due.Tie as tie

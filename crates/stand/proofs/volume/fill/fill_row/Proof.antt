@@ -5,7 +5,8 @@ use native.Mathlib.Omega.{arith}
 use Rattle.stand.specs.Fill.{rowCells}
 use Rattle.stand.specs.Shape.{Shape}
 use Rattle.stand.specs.Storage.{Lengths, stateOf}
-use Rattle.stand.proofs.Fill.{Filled, each-one, fill-all, fill-count, fill-lengths, fill-more, fill-next, fill-none, rows, sizes-few}
+use Rattle.stand.proofs.Parts.{rows}
+use Rattle.stand.proofs.Fill.{Filled, each-one, fill-all, fill-count, fill-lengths, fill-more, fill-next, fill-none, sizes-few}
 use Rattle.stand.proofs.Shape.{formed-opens}
 use Rattle.stand.proofs.volume.fill.fill_row.Statement.{statement}
 use Rattle.stand.proofs.volume.fill.fill_row.Tie as tie

@@ -5,7 +5,8 @@ use native.Mathlib.Omega.{arith}
 use Rattle.stand.specs.Fill.{solidCells}
 use Rattle.stand.specs.Shape.{Shape}
 use Rattle.stand.specs.Storage.{Lengths, stateOf}
-use Rattle.stand.proofs.Fill.{Filled, fill-all, fill-count, fill-lengths, fill-more, fill-next, fill-none, solids, sizes-few}
+use Rattle.stand.proofs.Parts.{solids}
+use Rattle.stand.proofs.Fill.{Filled, fill-all, fill-count, fill-lengths, fill-more, fill-next, fill-none, sizes-few}
 use Rattle.stand.proofs.Shape.{formed-opens}
 use Rattle.stand.proofs.volume.fill.fill_solid.Statement.{statement}
 use Rattle.stand.proofs.volume.fill.fill_solid.Tie as tie
