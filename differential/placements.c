@@ -39,6 +39,22 @@ static void paint(int pattern) {
     }
 }
 
+static void fill_all(uint16_t finish) {
+    stand_edited done = stand_fill(volume, STORAGE, (stand_cell){0, 0, 0}, (stand_cell){47, 47, 47}, finish);
+    want(done.code);
+    volume = done.volume;
+}
+
+static void fill_another(int turn) {
+    (void)turn;
+    fill_all((uint16_t)(1 + cells[0] % 2));
+}
+
+static void fill_same(int turn) {
+    (void)turn;
+    fill_all(cells[0]);
+}
+
 static void one_section(int turn) {
     (void)turn;
     want(stand_chunk_faces(volume, cells, CELLS, 13, 1, mask, SLOTS, list, NUMBERS).code);
@@ -74,6 +90,8 @@ static const struct {
     void (*call)(int);
     int calls;
 } rows[] = {
+    {"fill, all change", 0, fill_another, 2},
+    {"fill, none changes", 0, fill_same, 10},
     {"chunk_faces, random, one section", 3, one_section, 20},
     {"chunk_faces, random, 27 sections", 3, each_section, 27},
     {"chunk_faces, checkered, one section", 2, one_section, 20},

@@ -1,10 +1,10 @@
 //! The benchmark: the same work on both sides, in turns, best of several.
 
+mod beside;
 mod refresh;
 mod rows;
 mod stand;
 
-use stand::Both;
 use std::time::Instant;
 
 const ROUNDS: usize = 40;
@@ -22,69 +22,76 @@ struct Row {
     name: &'static str,
     goal: f64,
     ours: f64,
-    rust: f64,
+    /// What ours is held against: the Rust, or another call of ours.
+    other: f64,
 }
 
 /// Times of one turn on each side, the turns of a round in a row; each turn does `per` calls.
-fn measure(
+fn measure<T>(
     name: &'static str,
     goal: f64,
     per: usize,
-    both: &mut Both,
-    mut ours: impl FnMut(&mut Both),
-    mut rust: impl FnMut(&mut Both),
+    stand: &mut T,
+    mut ours: impl FnMut(&mut T),
+    mut other: impl FnMut(&mut T),
 ) -> Row {
     let mut best = [f64::MAX; 2];
-    let turns = [turns_of(both, &mut ours), turns_of(both, &mut rust)];
+    let turns = [turns_of(stand, &mut ours), turns_of(stand, &mut other)];
     for _ in 0..ROUNDS {
-        best[0] = best[0].min(round(both, turns[0], &mut ours));
-        best[1] = best[1].min(round(both, turns[1], &mut rust));
+        best[0] = best[0].min(round(stand, turns[0], &mut ours));
+        best[1] = best[1].min(round(stand, turns[1], &mut other));
     }
     Row {
         name,
         goal,
         ours: best[0] / per as f64,
-        rust: best[1] / per as f64,
+        other: best[1] / per as f64,
     }
 }
 
 /// How many turns fill a round.
-fn turns_of(both: &mut Both, turn: &mut impl FnMut(&mut Both)) -> usize {
+fn turns_of<T>(stand: &mut T, turn: &mut impl FnMut(&mut T)) -> usize {
     let start = Instant::now();
     let mut turns = 0;
     while start.elapsed().as_nanos() < ROUND_NANOS {
-        turn(both);
+        turn(stand);
         turns += 1;
     }
     turns
 }
 
-fn round(both: &mut Both, turns: usize, turn: &mut impl FnMut(&mut Both)) -> f64 {
+fn round<T>(stand: &mut T, turns: usize, turn: &mut impl FnMut(&mut T)) -> f64 {
     let start = Instant::now();
     for _ in 0..turns {
-        turn(both);
+        turn(stand);
     }
     start.elapsed().as_nanos() as f64 / turns as f64
 }
 
 pub fn run() {
     println!("{NOTES}\n");
-    println!(
-        "{:<26}{:>14}{:>14}{:>9}{:>7}",
-        "call", "ours, ns", "Rust, ns", "ratio", "goal"
-    );
+    head("Rust, ns");
     rows::edits(&mut print);
     rows::reads(&mut print);
     rows::sections(&mut print);
     rows::wholes(&mut print);
     refresh::table();
+    beside::table();
+}
+
+/// The head of a table, with the name of what ours is held against.
+fn head(other: &str) {
+    println!(
+        "{:<28}{:>14}{other:>14}{:>9}{:>7}",
+        "call", "ours, ns", "ratio", "goal"
+    );
 }
 
 fn print(row: Row) {
-    let ratio = row.ours / row.rust;
+    let ratio = row.ours / row.other;
     let word = if ratio <= row.goal { "" } else { "  missed" };
     println!(
-        "{:<26}{:>14.1}{:>14.1}{:>9.3}{:>7.2}{word}",
-        row.name, row.ours, row.rust, ratio, row.goal
+        "{:<28}{:>14.1}{:>14.1}{:>9.3}{:>7.2}{word}",
+        row.name, row.ours, row.other, ratio, row.goal
     );
 }

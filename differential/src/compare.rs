@@ -5,7 +5,7 @@ use crate::fault::Fault;
 use crate::ffi::Cell;
 use crate::model;
 use crate::ours;
-use crate::pair::{Pair, Same, apart};
+use crate::pair::{Pair, RUST, Same, apart, equal};
 use reference::Voxel;
 
 /// Equal cells; without an early end, so that it runs at full width.
@@ -70,20 +70,12 @@ impl Pair {
         let (s, t) = (&self.storage, self.theirs.stored());
         if !same_cells(&s.cells, t.cells) {
             let rust: Vec<u16> = t.cells.iter().map(|v| v.0).collect();
-            return Err(apart("cells", &s.cells, &rust));
+            return Err(apart("cells", &s.cells, RUST, &rust));
         }
-        if s.hashes != t.hashes {
-            return Err(apart("hashes", &s.hashes, t.hashes));
-        }
-        if s.versions != t.versions {
-            return Err(apart("versions", &s.versions, t.versions));
-        }
-        if s.log != t.log {
-            return Err(apart("log", &s.log, t.log));
-        }
-        if s.last != t.last {
-            return Err(apart("last changes", &s.last, t.last));
-        }
+        equal("hashes", &s.hashes, RUST, t.hashes)?;
+        equal("versions", &s.versions, RUST, t.versions)?;
+        equal("log", &s.log, RUST, t.log)?;
+        equal("last changes", &s.last, RUST, t.last)?;
         (0..5).for_each(|_| self.counts.compared(Kind::List));
         Ok(())
     }

@@ -1,5 +1,6 @@
 //! What a run did: calls, and comparisons by kind.
 
+use crate::boxes::Boxes;
 use crate::sheet::Tally;
 
 #[derive(Clone, Copy)]
@@ -40,6 +41,7 @@ pub struct Counts {
     /// Calls refused.
     pub refused: u64,
     pub kinds: [u64; 11],
+    pub boxes: Boxes,
     pub sheet: Tally,
 }
 
@@ -56,7 +58,13 @@ impl Counts {
         for (mine, theirs) in self.kinds.iter_mut().zip(other.kinds) {
             *mine += theirs;
         }
+        self.boxes.add(&other.boxes);
         self.sheet.add(&other.sheet);
+    }
+
+    /// Calls made on both sides: all but fills beside the stand.
+    pub fn on_both(&self) -> u64 {
+        self.calls - self.boxes.beside()
     }
 
     pub fn comparisons(&self) -> u64 {
@@ -68,6 +76,7 @@ impl Counts {
             "  {} calls in {} lists: {} changed a cell, {} refused",
             self.calls, self.lists, self.changing, self.refused
         );
+        self.boxes.print();
         println!("  {} comparisons:", self.comparisons());
         for (name, n) in NAMES.iter().zip(self.kinds).filter(|(_, n)| *n > 0) {
             println!("    {n:>13} {name}");

@@ -1,7 +1,8 @@
 //! Damaged calls: forged headers, lists of other lengths, arguments out of range. Our side alone is
-//! called; what it must answer comes from the model of document 01.
+//! called; what it must answer comes from the model.
 
 mod calls;
+mod edges;
 mod forge;
 
 use crate::calls::list;
@@ -11,33 +12,65 @@ use crate::ours::Storage;
 use crate::pair::{Difference, Pair, Same};
 use crate::rng::Rng;
 use crate::tiers;
+use crate::trial::tally::{count, listed, merge};
+use edges::EDGES;
 use std::collections::BTreeMap;
 
 const PER_STAND: u64 = 100;
 
 pub struct Summary {
     pub counts: Counts,
-    /// Answers by code, 0 for accepted.
-    pub codes: BTreeMap<u32, u64>,
+    pub tally: Tally,
     pub found: Option<(u64, Difference)>,
+}
+
+/// Answers by code, 0 for accepted.
+type Codes = BTreeMap<u32, u64>;
+
+#[derive(Default)]
+pub struct Tally {
+    codes: Codes,
+    /// Those of fills beside the stand.
+    beside: Codes,
+    edges: [u64; EDGES.len()],
+}
+
+impl Tally {
+    fn add(&mut self, other: Self) {
+        merge(&mut self.codes, &other.codes);
+        merge(&mut self.beside, &other.beside);
+        for (mine, theirs) in self.edges.iter_mut().zip(other.edges) {
+            *mine += theirs;
+        }
+    }
+
+    pub fn print(&self) {
+        println!(
+            "  answers by code (0 accepted): {}; of fills beside the stand: {}",
+            listed(&self.codes),
+            listed(&self.beside)
+        );
+        let edges = EDGES.iter().zip(self.edges);
+        for ((name, code, _), n) in edges {
+            println!("  fills, {name}, code {code}: {n}");
+        }
+    }
 }
 
 /// `count` damaged calls.
 pub fn run(count: u64, seed: u64) -> Summary {
     let mut all = Summary {
         counts: Counts::default(),
-        codes: BTreeMap::new(),
+        tally: Tally::default(),
         found: None,
     };
     for stand in 0..count.div_ceil(PER_STAND) {
         let mut rng = Rng::of(seed, 9, stand);
         let mut hurt = Hurt::new(&mut rng);
         let calls = PER_STAND.min(count - stand * PER_STAND);
-        let result = (0..calls).try_for_each(|_| hurt.one(&mut rng));
+        let result = (0..calls).try_for_each(|number| hurt.one(number, &mut rng));
         all.counts.add(&hurt.counts);
-        for (code, n) in hurt.codes {
-            *all.codes.entry(code).or_default() += n;
-        }
+        all.tally.add(hurt.tally);
         if let Err(difference) = result {
             all.found = Some((stand, difference));
             break;
@@ -53,7 +86,7 @@ struct Hurt {
     v: Volume,
     s: Storage,
     counts: Counts,
-    codes: BTreeMap<u32, u64>,
+    tally: Tally,
 }
 
 impl Hurt {
@@ -74,20 +107,24 @@ impl Hurt {
             v: pair.volume,
             s: pair.storage,
             counts,
-            codes: BTreeMap::new(),
+            tally: Tally::default(),
         }
     }
 
-    fn one(&mut self, rng: &mut Rng) -> Same {
+    /// The call of a number on this stand: first each edge once.
+    fn one(&mut self, number: u64, rng: &mut Rng) -> Same {
         self.v = self.volume;
         self.s.clone_from(&self.storage);
+        self.counts.calls += 1;
+        if (number as usize) < EDGES.len() {
+            return self.edge(number as usize, rng);
+        }
         if rng.chance(40) {
             forge::damage_header(&mut self.v, rng);
         }
         if rng.chance(30) {
             forge::damage_lists(&mut self.s, self.v.generation, rng);
         }
-        self.counts.calls += 1;
         match rng.below(20) {
             0..4 => self.set(rng),
             4..7 => self.fill(rng),
@@ -103,12 +140,12 @@ impl Hurt {
     /// Holds a code to the model's, and what a refused answer has beside it to nothing.
     fn hold(&mut self, what: &str, got: u32, wanted: u32, rest: bool) -> Same {
         self.counts.compared(Kind::Answer);
-        *self.codes.entry(wanted).or_default() += 1;
+        count(&mut self.tally.codes, wanted);
         if got == wanted && (got == 0 || rest) {
             return Ok(());
         }
         Err(self.differs(&format!(
-            "{what}: ours {got}, document 01 {wanted}, rest as wanted: {rest}"
+            "{what}: ours {got}, wanted {wanted}, rest as wanted: {rest}"
         )))
     }
 

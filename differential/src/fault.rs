@@ -26,12 +26,14 @@ pub enum Fault {
     /// A header where opening would refuse, or none where it would not; mask slots miscounted.
     Header,
     Slots,
+    /// A fill beside the stand that reaches its rim.
+    Rim,
     /// A refresh that measures only changed sections, and one that adds a row to the old one.
     Neighbours,
     Added,
 }
 
-pub const ALL: [Fault; 19] = [
+pub const ALL: [Fault; 20] = [
     Fault::Cell,
     Fault::Hash,
     Fault::Version,
@@ -49,6 +51,7 @@ pub const ALL: [Fault; 19] = [
     Fault::Claim,
     Fault::Header,
     Fault::Slots,
+    Fault::Rim,
     Fault::Neighbours,
     Fault::Added,
 ];

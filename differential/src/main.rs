@@ -1,6 +1,7 @@
 //! The stand against the Rust: the same lists of calls on both sides, and a benchmark.
 
 mod bench;
+mod boxes;
 mod calls;
 mod compare;
 mod counts;
@@ -28,6 +29,7 @@ mod theirs;
 mod tiers;
 mod trial;
 
+use boxes::Boxes;
 use report::Report;
 use std::process::ExitCode;
 
@@ -147,9 +149,11 @@ fn compare_all(args: &Args, catch: bool) -> bool {
     }
     let all = if catch { CHECKED } else { tiers::CALLS };
     let asked = args.calls.unwrap_or(all);
+    let mut boxes = Boxes::default();
     for tier in tiers::cut(asked) {
-        report.part(tier.name, || tiers::run_tier(&tier, args.seed, catch));
+        boxes.add(&report.part(tier.name, || tiers::run_tier(&tier, args.seed, catch)));
     }
+    report.must_show(&boxes);
     report.part("opening at its limits", || openings::run(catch));
     if catch {
         report.panics();
@@ -180,19 +184,14 @@ fn sheet_alone(args: &Args) -> bool {
 fn damaged(calls: u64, seed: u64, report: &mut Report) {
     let summary = damage::run(calls, seed);
     let c = &summary.counts;
-    println!("damaged calls, held to document 01, counted apart");
+    println!("damaged calls, held to the model, counted apart");
     println!(
         "  {} calls on {} stands, {} comparisons",
         c.calls,
         c.lists,
         c.comparisons()
     );
-    let by: Vec<String> = summary
-        .codes
-        .iter()
-        .map(|(code, n)| format!("{code}: {n}"))
-        .collect();
-    println!("  answers by code (0 accepted): {}", by.join(", "));
+    summary.tally.print();
     if let Some((stand, difference)) = summary.found {
         report.differs(&format!("damaged calls on stand {stand}"), &difference);
     }

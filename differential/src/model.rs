@@ -1,7 +1,8 @@
-//! Document 01's refusals, worked out in exact numbers apart from both sides.
+//! Refusals and edits by documents 01 and 02, worked out in exact numbers apart from both sides.
 
 use crate::ffi::{Cell, Extent, Opened, Volume};
 use crate::ours::Storage;
+use std::ops::Range;
 
 const LAST: i128 = i32::MAX as i128;
 
@@ -95,19 +96,50 @@ pub fn set_code(v: Volume, s: &Storage, c: Cell, finish: u16) -> u32 {
     }
 }
 
-/// A cell held to the stand, as distances.
-fn held(v: Volume, c: Cell) -> [i128; 3] {
-    let (at, origin, size) = (spread(c), spread(v.origin), wide(v.size));
-    [0, 1, 2].map(|a| (at[a] - origin[a]).clamp(0, size[a] - 1))
+/// What box and stand have in common: along each axis the distances from the origin, none where they do not meet.
+fn common(v: Volume, from: Cell, to: Cell) -> [Range<i128>; 3] {
+    let (a, b) = (spread(from), spread(to));
+    let (origin, size) = (spread(v.origin), wide(v.size));
+    [0, 1, 2].map(|i| {
+        let (low, high) = (a[i].min(b[i]), a[i].max(b[i]));
+        (low - origin[i]).max(0)..(high - origin[i] + 1).min(size[i])
+    })
 }
 
+/// How the box of a fill lies to the stand.
+#[derive(Clone, Copy)]
+pub enum Lies {
+    Inside,
+    /// A corner is outside, and at least one cell in common.
+    Across,
+    /// No cell in common: box and stand do not meet on so many axes.
+    Beside(usize),
+}
+
+impl Lies {
+    /// The box misses the stand.
+    pub fn misses(self) -> bool {
+        matches!(self, Self::Beside(_))
+    }
+}
+
+pub fn lies(v: Volume, from: Cell, to: Cell) -> Lies {
+    let apart = common(v, from, to).iter().filter(|r| r.is_empty()).count();
+    match apart {
+        0 if inside(v, from) && inside(v, to) => Lies::Inside,
+        0 => Lies::Across,
+        axes => Lies::Beside(axes),
+    }
+}
+
+/// 3, 4, then 6 for the cells that box and stand have in common, changed or not.
 pub fn fill_code(v: Volume, s: &Storage, from: Cell, to: Cell) -> u32 {
     let code = storage_code(v, s);
     if code != 0 {
         return code;
     }
-    let (a, b) = (held(v, from), held(v, to));
-    let cells: i128 = (0..3).map(|i| (a[i] - b[i]).abs() + 1).product();
+    let counts = common(v, from, to).map(|r| (r.end - r.start).max(0));
+    let cells: i128 = counts.iter().product();
     first(&[(cells > i128::from(u64::MAX - v.generation), 6)])
 }
 
@@ -229,15 +261,14 @@ pub fn set(v: &mut Volume, s: &mut Storage, c: Cell, finish: u16) -> bool {
     true
 }
 
-/// The cells of a fill, in its order.
+/// The cells of a fill, in its order: those both in the box and in the stand.
 pub fn box_cells(v: Volume, from: Cell, to: Cell) -> Vec<Cell> {
-    let (a, b) = (held(v, from), held(v, to));
+    let [xs, ys, zs] = common(v, from, to);
     let o = spread(v.origin);
-    let on = |i: usize| a[i].min(b[i])..=a[i].max(b[i]);
     let mut cells = Vec::new();
-    for z in on(2) {
-        for y in on(1) {
-            for x in on(0) {
+    for z in zs {
+        for y in ys.clone() {
+            for x in xs.clone() {
                 cells.push(Cell {
                     x: (o[0] + x) as i32,
                     y: (o[1] + y) as i32,

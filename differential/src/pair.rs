@@ -17,13 +17,44 @@ pub struct Difference(pub String);
 
 pub type Same = Result<(), Difference>;
 
-/// The first entry where two lists part.
-pub fn apart<T: PartialEq + Debug>(name: &str, ours: &[T], rust: &[T]) -> Difference {
-    let at = (0..ours.len().max(rust.len())).find(|i| ours.get(*i) != rust.get(*i));
+/// Whom our side is held to.
+pub const RUST: &str = "Rust";
+const MODEL: &str = "model";
+
+/// The first entry where our list parts from the one that it is held to.
+pub fn apart<T: PartialEq + Debug>(name: &str, ours: &[T], whose: &str, due: &[T]) -> Difference {
+    let at = (0..ours.len().max(due.len())).find(|i| ours.get(*i) != due.get(*i));
     let at = at.unwrap_or(0);
     let show = |l: &[T]| format!("{:?} of {}", l.get(at), l.len());
-    let (ours, rust) = (show(ours), show(rust));
-    Difference(format!("{name}, entry {at}: ours {ours}, Rust {rust}"))
+    let (ours, due) = (show(ours), show(due));
+    Difference(format!("{name}, entry {at}: ours {ours}, {whose} {due}"))
+}
+
+/// Two answers are equal.
+fn agree<T: PartialEq + Debug>(what: &str, ours: T, whose: &str, due: T) -> Same {
+    if ours == due {
+        return Ok(());
+    }
+    Err(Difference(format!(
+        "{what}: ours {ours:?}, {whose} {due:?}"
+    )))
+}
+
+/// Two lists are equal, entry by entry.
+pub fn equal<T: PartialEq + Debug>(name: &str, ours: &[T], whose: &str, due: &[T]) -> Same {
+    if ours == due {
+        return Ok(());
+    }
+    Err(apart(name, ours, whose, due))
+}
+
+/// All five lists are as they were.
+fn kept(now: &Storage, before: &Storage) -> Same {
+    equal("cells", &now.cells, MODEL, &before.cells)?;
+    equal("hashes", &now.hashes, MODEL, &before.hashes)?;
+    equal("versions", &now.versions, MODEL, &before.versions)?;
+    equal("log", &now.log, MODEL, &before.log)?;
+    equal("last changes", &now.last, MODEL, &before.last)
 }
 
 /// A panic of the Rust: the function called, and where it panicked.
@@ -89,10 +120,7 @@ impl Pair {
 
     pub fn same<T: PartialEq + Debug>(&mut self, kind: Kind, what: &str, ours: T, rust: T) -> Same {
         self.counts.compared(kind);
-        if ours == rust {
-            return Ok(());
-        }
-        Err(Difference(format!("{what}: ours {ours:?}, Rust {rust:?}")))
+        agree(what, ours, RUST, rust)
     }
 
     pub fn same_list<T: PartialEq + Debug>(
@@ -103,10 +131,7 @@ impl Pair {
         rust: &[T],
     ) -> Same {
         self.counts.compared(kind);
-        if ours == rust {
-            return Ok(());
-        }
-        Err(apart(what, ours, rust))
+        equal(what, ours, RUST, rust)
     }
 
     /// What our side must keep to, of which the Rust knows nothing.
@@ -211,6 +236,11 @@ impl Pair {
     }
 
     fn fill(&mut self, from: Cell, to: Cell, finish: u16) -> Same {
+        let lies = model::lies(self.theirs.header(), from, to);
+        self.counts.boxes.count(lies);
+        if lies.misses() {
+            return self.fill_beside(from, to, finish);
+        }
         let Some(rust) = self.rust("fill", |t| t.fill(from, to, finish))? else {
             return Ok(());
         };
@@ -218,6 +248,28 @@ impl Pair {
         self.volume = done.volume;
         self.tally(rust > 0, false);
         self.same(Kind::Answer, "fill", (done.code, done.changed), (0, rust))
+    }
+
+    /// A box that misses the stand: the Rust, which fills border cells, is not asked. By document 02, 2.1 no cell
+    /// changes, and header and lists stay as they were.
+    fn fill_beside(&mut self, from: Cell, to: Cell, finish: u16) -> Same {
+        let (volume, storage) = (self.volume, self.storage.clone());
+        let code = model::fill_code(volume, &storage, from, to);
+        let [a, b] = [from, to].map(|corner| self.reached(corner));
+        let done = ours::fill(volume, &mut self.storage, a, b, finish);
+        self.volume = done.volume;
+        let answer = (done.code, done.changed);
+        agree("fill beside the stand", answer, MODEL, (code, 0))?;
+        agree("header after it", done.volume, MODEL, volume)?;
+        kept(&self.storage, &storage)
+    }
+
+    /// The corner that our side takes; by its fault, the nearest cell of the stand.
+    fn reached(&self, corner: Cell) -> Cell {
+        if self.faulty(Fault::Rim) {
+            return ours::clamp(self.volume, corner).cell;
+        }
+        corner
     }
 
     pub fn tally(&mut self, changed: bool, refused: bool) {

@@ -22,6 +22,11 @@ pub fn run(path: &str, seed: u64) -> bool {
     for ((verb, outcome), n) in &page.counts {
         println!("  {verb}, {outcome}: {n}");
     }
+    let fills = page.answers_of("fill") + page.left_out;
+    println!(
+        "  fills beside the stand, left out: {} of {fills}",
+        page.left_out
+    );
     let head = format!("{HEAD}, seed {seed}: differential/README.md, \"Recorded calls\"\n");
     let before = fs::read_to_string(path).unwrap_or_default();
     let kept = before.split(HEAD).next().unwrap_or_default();

@@ -1,5 +1,6 @@
 //! What a run prints: counts, differences with their smallest lists, the Rust's panics.
 
+use crate::boxes::Boxes;
 use crate::calls::Call;
 use crate::counts::Counts;
 use crate::many::Summary;
@@ -12,6 +13,8 @@ use std::time::Instant;
 pub struct Report {
     pub total: Counts,
     pub differences: u64,
+    /// Nothing is missing that the run must show.
+    whole: bool,
     seed: u64,
     start: Instant,
     panics: BTreeMap<Panic, (u64, Vec<Call>)>,
@@ -22,14 +25,15 @@ impl Report {
         Self {
             total: Counts::default(),
             differences: 0,
+            whole: true,
             seed,
             start: Instant::now(),
             panics: BTreeMap::new(),
         }
     }
 
-    /// A part of the run, its time, and what it found.
-    pub fn part(&mut self, name: &str, work: impl FnOnce() -> Summary) {
+    /// A part of the run, its time, and what it found; the boxes that it filled.
+    pub fn part(&mut self, name: &str, work: impl FnOnce() -> Summary) -> Boxes {
         let start = Instant::now();
         let summary = work();
         println!("{name} ({:.1} s)", start.elapsed().as_secs_f64());
@@ -47,6 +51,18 @@ impl Report {
         for (panic, (count, calls)) in summary.panics {
             let entry = self.panics.entry(panic);
             entry.or_insert((0, calls)).0 += count;
+        }
+        summary.counts.boxes
+    }
+
+    /// Boxes of every kind must have been filled; a run that a difference stopped shows less.
+    pub fn must_show(&mut self, boxes: &Boxes) {
+        if self.differences > 0 {
+            return;
+        }
+        for what in boxes.missing() {
+            println!("  never in the tiers: {what}");
+            self.whole = false;
         }
     }
 
@@ -69,7 +85,7 @@ impl Report {
         );
     }
 
-    /// The last lines: true where nothing differs and a third of the calls changed a cell.
+    /// The last lines: true where nothing differs, nothing is missing and a third of the calls changed a cell.
     pub fn end(&self) -> bool {
         let t = &self.total;
         let share = t.changing as f64 / t.calls.max(1) as f64;
@@ -78,11 +94,11 @@ impl Report {
         println!("  a share of {share:.3} of the calls changed a cell");
         println!(
             "{} calls, {} comparisons, {} differences",
-            t.calls,
+            t.on_both(),
             t.comparisons(),
             self.differences
         );
-        self.differences == 0 && t.changing * 3 >= t.calls
+        self.differences == 0 && self.whole && t.changing * 3 >= t.calls
     }
 }
 

@@ -1,6 +1,6 @@
 //! The Rust's side, its answers in the types of the C interface.
 
-use crate::ffi::{Cell, Extent};
+use crate::ffi::{self, Cell, Extent};
 use reference::{Beyond, Face, Quad, Volume, Voxel};
 
 pub fn cell(c: Cell) -> reference::Cell {
@@ -71,6 +71,17 @@ pub struct Theirs(pub Volume);
 impl Theirs {
     pub fn open(origin: Cell, size: Extent) -> Option<Self> {
         Volume::new(cell(origin), (size.x, size.y, size.z)).map(Self)
+    }
+
+    /// The header of the stand, in the model's terms.
+    pub fn header(&self) -> ffi::Volume {
+        ffi::Volume {
+            origin: self.origin(),
+            chunks: self.chunks(),
+            size: self.size(),
+            generation: self.0.generation(),
+            solid: self.0.solid_count() as u64,
+        }
     }
 
     pub fn stored(&self) -> Stored<'_> {

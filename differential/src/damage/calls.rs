@@ -1,12 +1,14 @@
 //! The damaged calls, each held to the model.
 
 use super::Hurt;
+use super::edges::Fill;
 use super::forge::{some_cell, some_chunk, some_number};
 use crate::ffi::{Cell, Extent, Slice, Volume};
 use crate::model;
 use crate::ours::{self, Storage};
 use crate::pair::Same;
 use crate::rng::Rng;
+use crate::trial::tally::count;
 
 const DIRT: u16 = 0xd7d7;
 const LIST_DIRT: i32 = 0x5e5e_5e5e;
@@ -33,6 +35,14 @@ impl Hurt {
         let (a, b) = (some_cell(self.v, rng), some_cell(self.v, rng));
         let finish = rng.below(4) as u16;
         let code = model::fill_code(self.v, &self.s, a, b);
+        self.fill_box("fill", (a, b, finish), code)
+    }
+
+    /// A fill, held to a code; where it is 0, to the model's sets.
+    pub fn fill_box(&mut self, what: &str, (a, b, finish): Fill, code: u32) -> Same {
+        if model::lies(self.v, a, b).misses() {
+            count(&mut self.tally.beside, code);
+        }
         let (mut after, mut stored) = (self.v, self.s.clone());
         let mut changed = 0;
         if code == 0 {
@@ -41,9 +51,9 @@ impl Hurt {
             }
         }
         let got = ours::fill(self.v, &mut self.s, a, b, finish);
-        self.hold("fill", got.code, code, got.changed == 0)?;
+        self.hold(what, got.code, code, got.changed == 0)?;
         let equal = (got.changed, got.volume) == (changed, after);
-        self.kept("fill", equal && self.s == stored)
+        self.kept(what, equal && self.s == stored)
     }
 
     /// Opening with lists of any length: 1, 2, 4; and the header alone: 1, 2.

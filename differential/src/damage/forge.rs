@@ -1,5 +1,6 @@
 //! Headers, lists and arguments as no careful caller gives them.
 
+use crate::calls::cell_of;
 use crate::ffi::{Cell, Volume};
 use crate::ours::Storage;
 use crate::rng::Rng;
@@ -29,6 +30,31 @@ pub fn some_cell(v: Volume, rng: &mut Rng) -> Cell {
         y: on(v.origin.y, v.size.y, rng),
         z: on(v.origin.z, v.size.z, rng),
     }
+}
+
+/// A cell of a stand that is not damaged.
+pub fn inside(v: Volume, rng: &mut Rng) -> Cell {
+    let (o, n) = (v.origin, v.size);
+    let shape = [(o.x, n.x), (o.y, n.y), (o.z, n.z)];
+    cell_of(shape.map(|(o, n)| o + rng.below(n as u64) as i32))
+}
+
+/// A box that misses a stand that is not damaged, on one axis alone: just below or above it, to the end of i32 or not.
+pub fn beside(v: Volume, rng: &mut Rng) -> (Cell, Cell) {
+    let (o, n) = (v.origin, v.size);
+    let axis = rng.below(3) as usize;
+    let (low, size) = [(o.x, n.x), (o.y, n.y), (o.z, n.z)][axis];
+    let below = low.checked_sub(1).map(|near| [near, i32::MIN]);
+    let above = low.checked_add(size).map(|near| [near, i32::MAX]);
+    let sides: Vec<[i32; 2]> = below.into_iter().chain(above).collect();
+    let side = rng.pick(&sides);
+    let mut corner = || {
+        let c = inside(v, rng);
+        let mut c = [c.x, c.y, c.z];
+        c[axis] = rng.pick(&side);
+        cell_of(c)
+    };
+    (corner(), corner())
 }
 
 pub fn damage_header(v: &mut Volume, rng: &mut Rng) {

@@ -3,6 +3,10 @@
 use super::line::{Line, Says};
 use super::pen::LONGEST;
 use super::text::Text;
+use super::words::numbers;
+use crate::theirs::Theirs;
+use crate::trial::call::Call;
+use crate::trial::program::open_code;
 
 #[derive(Clone, Copy, PartialEq, Debug)]
 pub enum Fault {
@@ -22,9 +26,11 @@ pub enum Fault {
     Comment,
     /// A line too long that is cut.
     Cut,
+    /// A fill beside the stand that reaches its rim.
+    Rim,
 }
 
-pub const ALL: [Fault; 8] = [
+pub const ALL: [Fault; 9] = [
     Fault::Octal,
     Fault::Wrapped,
     Fault::Skipped,
@@ -33,6 +39,7 @@ pub const ALL: [Fault; 8] = [
     Fault::Carriage,
     Fault::Comment,
     Fault::Cut,
+    Fault::Rim,
 ];
 
 impl Fault {
@@ -41,6 +48,7 @@ impl Fault {
         match self {
             Self::Uncounted => taken.lines.retain(|l| l.says != Says::Nothing),
             Self::Lost if !text.ended => drop(taken.lines.pop()),
+            Self::Rim => clamp_fills(&mut taken.lines),
             _ => taken.lines.iter_mut().for_each(|l| self.spoil(l)),
         }
         taken
@@ -58,6 +66,28 @@ impl Fault {
             _ => {}
         }
     }
+}
+
+/// Each corner of a fill moved to the nearest cell of the stand.
+fn clamp_fills(lines: &mut [Line]) {
+    let mut stand = None;
+    for line in lines {
+        match (line.says, &stand) {
+            (Says::Call(Call::Open(origin, size)), _) if open_code(origin, size) == 0 => {
+                stand = Theirs::open(origin, size);
+            }
+            (Says::Call(Call::Fill(from, to, finish)), Some(stand)) => {
+                line.bytes = plain(Call::Fill(stand.clamp(from), stand.clamp(to), finish));
+            }
+            _ => {}
+        }
+    }
+}
+
+/// A fill as a line.
+fn plain(fill: Call) -> Vec<u8> {
+    let words: Vec<String> = numbers(fill).iter().map(ToString::to_string).collect();
+    format!("fill {}", words.join(" ")).into_bytes()
 }
 
 fn replace(bytes: &mut [u8], old: u8) {

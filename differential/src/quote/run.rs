@@ -7,7 +7,7 @@ use crate::differences::Differences;
 use crate::many::while_same;
 use crate::shrink::fewest;
 use crate::trial::process::{self, Shown};
-use crate::trial::program::play;
+use crate::trial::program::{Played, play};
 use std::path::PathBuf;
 use std::sync::Mutex;
 use std::time::Instant;
@@ -33,9 +33,9 @@ impl Sides {
     }
 
     /// What is due, and whether the program shows it.
-    fn compare(&self, text: &Text) -> (String, bool) {
+    fn compare(&self, text: &Text) -> (Played, bool) {
         let due = due(text);
-        let same = self.program_shows(text) == Shown::due(&due);
+        let same = self.program_shows(text) == Shown::due(&due.text);
         (due, same)
     }
 
@@ -45,7 +45,7 @@ impl Sides {
             let text = make(seed, number);
             let (due, same) = self.compare(&text);
             let mut all = summary.lock().expect("no thread panicked");
-            all.tally.add(&text, due.lines().count());
+            all.tally.add(&text, &due);
             if !same {
                 all.differences.add(number, text);
             }
@@ -74,16 +74,16 @@ impl Sides {
             println!("  the last line has no end");
         }
         self.program_shows(&text).print("program");
-        Shown::due(&due(&text)).print("reference");
+        Shown::due(&due(&text).text).print("reference");
     }
 }
 
 /// What the program must print: the lines of the calls before the first bad line, then that line's fault.
-fn due(text: &Text) -> String {
+fn due(text: &Text) -> Played {
     let script: Vec<u8> = text.calls().flat_map(|c| c.bytes()).collect();
-    let mut due = play(&script, None).text;
+    let mut due = play(&script, None);
     if let Some((at, bad)) = text.bad() {
-        due += &format!("line {}: {}\n", at + 1, bad.text());
+        due.text += &format!("line {}: {}\n", at + 1, bad.text());
     }
     due
 }

@@ -4,7 +4,9 @@ use super::bad::FORMS;
 use super::line::Says;
 use super::pen::MARKS;
 use super::text::Text;
+use crate::boxes::Boxes;
 use crate::trial::call::NAMES;
+use crate::trial::program::Played;
 use crate::trial::tally::{Counts, count, listed, sum};
 use std::collections::BTreeSet;
 
@@ -22,13 +24,16 @@ pub struct Tally {
     bad: Names,
     /// What is unusual in the lines, the forms of bad ones among it.
     marks: Names,
+    boxes: Boxes,
     printed: u64,
 }
 
 impl Tally {
-    pub fn add(&mut self, text: &Text, printed: usize) {
+    /// A text, and what is due of it.
+    pub fn add(&mut self, text: &Text, due: &Played) {
         self.texts += 1;
-        self.printed += printed as u64;
+        self.printed += due.text.lines().count() as u64;
+        self.boxes.add(&due.tally.boxes);
         for line in text.read() {
             match line.says {
                 Says::Nothing => self.nothing += 1,
@@ -52,7 +57,8 @@ impl Tally {
         let marks = FORMS.iter().map(|f| f.0).chain(MARKS);
         let marks = marks.chain([BREAKS_OFF]);
         let marks = marks.filter(|m| !self.marks.contains_key(m));
-        let missing: BTreeSet<&str> = calls.copied().chain(faults).chain(marks).collect();
+        let missing = calls.copied().chain(faults).chain(marks);
+        let missing: BTreeSet<&str> = missing.chain(self.boxes.missing()).collect();
         for what in &missing {
             println!("  never: {what}");
         }
@@ -65,6 +71,7 @@ impl Tally {
 
     pub fn print(&self) {
         println!("  calls: {}", listed(&self.calls));
+        self.boxes.print();
         println!("  lines that say nothing: {}", self.nothing);
         println!("  bad lines: {}", listed(&self.bad));
         let of = |bad: bool| {

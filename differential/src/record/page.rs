@@ -10,6 +10,8 @@ pub struct Page {
     /// Lines with a verb, and those with an answer.
     pub calls: u64,
     pub answers: u64,
+    /// Fills beside the stand.
+    pub left_out: u64,
     /// Answers by verb and outcome.
     pub counts: BTreeMap<(String, String), u64>,
 }
@@ -37,6 +39,12 @@ impl Page {
         self.calls += 1;
         self.text += line;
         self.text.push('\n');
+    }
+
+    /// Answers of a verb.
+    pub fn answers_of(&self, verb: &str) -> u64 {
+        let of = self.counts.iter().filter(|((v, _), _)| v == verb);
+        of.map(|(_, n)| n).sum()
     }
 
     pub fn answers(&mut self, call: &str, answer: &Answer) {

@@ -2,7 +2,7 @@
 
 use super::answer::Answer;
 use super::page::{Page, cell, extent, rule};
-use crate::ffi::{Cell, Extent, Volume};
+use crate::ffi::{Cell, Extent};
 use crate::model;
 use crate::theirs::{self, Theirs};
 use crate::trial::program;
@@ -94,17 +94,6 @@ impl Stage {
         self.page.sets(&format!("mark {mark}"));
     }
 
-    /// The header of the stand, in the model's terms.
-    pub fn header(t: &Theirs) -> Volume {
-        Volume {
-            origin: t.origin(),
-            chunks: t.chunks(),
-            size: t.size(),
-            generation: t.0.generation(),
-            solid: t.0.solid_count() as u64,
-        }
-    }
-
     /// An opening, lent storage for its sections where there are at most 4 of them; a refused one keeps the stand.
     pub fn open(&mut self, origin: Cell, size: Extent) -> u32 {
         let code = program::open_code(origin, size);
@@ -136,7 +125,13 @@ impl Stage {
         self.compare();
     }
 
+    /// A fill, but none beside the stand: there the Rust's answer is not that of document 02, 2.1.
     pub fn fill(&mut self, from: Cell, to: Cell, finish: u16) {
+        let misses = |t: &Theirs| model::lies(t.header(), from, to).misses();
+        if self.theirs.as_ref().is_some_and(misses) {
+            self.page.left_out += 1;
+            return;
+        }
         let changed = self.theirs.as_mut().map(|t| t.fill(from, to, finish));
         let call = format!("fill {} {} {finish}", cell(from), cell(to));
         self.page.answers(&call, &Answer::number(changed, 3));
@@ -146,7 +141,7 @@ impl Stage {
     /// Generation, solid and digest.
     fn compare(&mut self) {
         if let Some(t) = &self.theirs {
-            let v = Self::header(t);
+            let v = t.header();
             let answer = Answer::of([v.generation, v.solid, t.0.digest()]);
             self.page.answers("stand", &answer);
         }
@@ -157,7 +152,7 @@ impl Stage {
         let Some(t) = &self.theirs else {
             return;
         };
-        let v = Self::header(t);
+        let v = t.header();
         let (name, code) = match part {
             Some(s) => (format!("panels {s}"), model::section_code(v, s)),
             None => ("whole".into(), 0),

@@ -89,7 +89,7 @@ impl Stage {
 
     fn section(&mut self, section: usize) {
         let t = self.stand();
-        let v = Self::header(t);
+        let v = t.header();
         let there = section < t.0.chunk_count();
         let wants = there.then(|| model::want(v, Some(section)) as u64);
         let answers = [
@@ -106,7 +106,7 @@ impl Stage {
     fn since(&mut self, mark: u64) {
         let t = self.stand();
         let n = t.0.chunk_count();
-        let code = model::feed_code(Self::header(t), n, n, mark);
+        let code = model::feed_code(t.header(), n, n, mark);
         let given = t.0.changed_since(mark);
         let answer = given.map_or(Answer::Refused(code), |walk| {
             Answer::of(walk.map(|section| section as u64))

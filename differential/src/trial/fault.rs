@@ -15,8 +15,8 @@ pub enum Fault {
     Forgotten,
     /// A refused opening that drops the stand.
     Dropped,
-    /// A fill that intersects.
-    Intersected,
+    /// A fill beside the stand that reaches its rim.
+    Rim,
     /// An opening refused by 4 where 1 or 2 applies too.
     FourFirst,
     /// An input cut short in a body that ends like any other.
@@ -34,7 +34,7 @@ pub const ALL: [Fault; 12] = [
     Fault::Moved,
     Fault::Forgotten,
     Fault::Dropped,
-    Fault::Intersected,
+    Fault::Rim,
     Fault::FourFirst,
     Fault::Silent,
     Fault::Newline,

@@ -2,6 +2,7 @@
 
 use super::call::{BODIES, NAMES, is_known};
 use super::script::KINDS;
+use crate::boxes::Boxes;
 use std::collections::BTreeMap;
 
 /// The numbers by which a call can be refused.
@@ -23,6 +24,8 @@ pub struct Tally {
     /// Accepted sets and fills, and those that changed a cell.
     edits: u64,
     changing: u64,
+    /// Those of accepted fills.
+    pub boxes: Boxes,
     unknown: u64,
     /// Scripts cut short, by kind of call and bytes of its body that are there.
     short: Counts<(u8, usize)>,
@@ -79,6 +82,7 @@ impl Tally {
         self.anew += other.anew;
         self.edits += other.edits;
         self.changing += other.changing;
+        self.boxes.add(&other.boxes);
         self.unknown += other.unknown;
         self.lines += other.lines;
     }
@@ -100,6 +104,7 @@ impl Tally {
         let mut all: Vec<String> = kinds.map(|k| name("scripts:", k)).collect();
         all.extend(calls.map(|k| name("calls:", k)));
         all.extend(codes.map(|k| name("refusal", &k.to_string())));
+        all.extend(self.boxes.missing().iter().map(ToString::to_string));
         let few = self.changing * 3 < sum(&self.calls);
         let others = [
             (self.prices.len() < 3, "refreshes by sections measured"),
@@ -126,6 +131,7 @@ impl Tally {
         let share = self.changing as f64 / calls.max(1) as f64;
         let (edits, changing) = (self.edits, self.changing);
         println!("  {edits} edits accepted, {changing} changed a cell: {share:.3} of the calls");
+        self.boxes.print();
         let (short, at) = (sum(&self.short), self.short.len());
         let (unknown, of) = (self.unknown, places());
         println!(
@@ -153,7 +159,7 @@ pub fn count<K: Ord>(counts: &mut Counts<K>, key: K) {
     *counts.entry(key).or_default() += 1;
 }
 
-fn merge<K: Ord + Copy>(into: &mut Counts<K>, from: &Counts<K>) {
+pub fn merge<K: Ord + Copy>(into: &mut Counts<K>, from: &Counts<K>) {
     for (key, n) in from {
         *into.entry(*key).or_default() += n;
     }
