@@ -51,8 +51,8 @@ enum {
     STAND_BAD_HEADER = 3,       /* a header whose sizes, sections and last cell opening would not give */
     STAND_BAD_LENGTH = 4,       /* storage or sheet of another length than the stand needs */
     STAND_OUTSIDE = 5,          /* the cell is outside the stand */
-    STAND_LAST_GENERATION = 6,  /* a set that would change at generation 2^64 - 1, or a fill whose box in the
-                                   stand has more cells than generations remain */
+    STAND_LAST_GENERATION = 6,  /* a set that would change at generation 2^64 - 1, or a fill whose box has more
+                                   cells in the stand, changed or not, than generations remain */
     STAND_BAD_CHUNK = 7,        /* the section's number is too high */
     STAND_MARK_AHEAD = 8,       /* the mark is above the generation */
     STAND_MARK_TOO_OLD = 9,     /* more changes since the mark than there are sections */
@@ -218,9 +218,10 @@ stand_number stand_set_lent(stand_volume *volume,
                             uint64_t *last, size_t last_count,
                             stand_cell cell, uint16_t finish);
 
-/* Gives every cell of a box a finish. `from` and `to` are any two opposite corners, both included. Each
-   corner is first moved to the nearest cell of the stand, so a box wholly outside fills border cells.
-   `changed` counts the cells that had another finish. Refused: 3, 4, 6. */
+/* Gives every cell that lies both in a box and in the stand a finish. `from` and `to` are any two opposite
+   corners, both included, inside the stand or not. A box beside the stand, along one axis or more, is accepted:
+   it changes 0 cells, and nothing is written. `changed` counts the cells that had another finish. Refused: 3,
+   4, 6. example/beside.c has boxes beside the stand, across its edge and around it. */
 stand_edited stand_fill(stand_volume volume,
                         uint16_t *cells, size_t cells_count,
                         uint64_t *hashes, size_t hashes_count,
