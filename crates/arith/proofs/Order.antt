@@ -5,7 +5,7 @@ use Prim.Native.Nat.{ℕ, zero, suc}
 use native.Mathlib.Nat.{le-of-lt}
 use borrow.Author.Tests.{leb-true, leb-false, le-leb, lt-ltb, le-ltb, ltb-true}
 use lib.Dec.{leb, ltb, leb·zero, leb·suc-zero, leb·suc-suc}
-use lib.IntN.{ℤ, pos, negsuc, _+ℤ_, sucℤ, +ℤ-idr, +ℤ-one, +ℤ-sucℤ}
+use lib.IntN.{ℤ, pos, negsuc, _+ℤ_, _-ℤ_, sucℤ, +ℤ-idr, +ℤ-one, +ℤ-sucℤ, -ℤ-+ℤ-cancel}
 use lib.Signed.{leZ, ltZ}
 
 -- ---- two integers moved alike
@@ -30,6 +30,13 @@ shift-le a b (pos zero) = λ i. leZ (+ℤ-idr a i) (+ℤ-idr b i)
 shift-le a b (pos (suc n)) = step-le a b (pos n) ∙ shift-le a b (pos n)
 shift-le a b (negsuc zero) = sym (step-le a b (negsuc zero)) ∙ λ i. leZ (+ℤ-idr a i) (+ℤ-idr b i)
 shift-le a b (negsuc (suc n)) = sym (step-le a b (negsuc (suc n))) ∙ shift-le a b (negsuc n)
+
+-- a number is taken from one side to the other
+pub sub-le : (a b c : ℤ) → leZ (a -ℤ c) b ≡ leZ a (b +ℤ c)
+sub-le a b c = sym (shift-le (a -ℤ c) b c) ∙ ap (λ (z : ℤ). leZ z (b +ℤ c)) (-ℤ-+ℤ-cancel a c)
+
+pub le-sub : (a b c : ℤ) → leZ a (b -ℤ c) ≡ leZ (a +ℤ c) b
+le-sub a b c = sym (shift-le a (b -ℤ c) c) ∙ ap (leZ (a +ℤ c)) (-ℤ-+ℤ-cancel b c)
 
 -- ---- at most, and above
 

@@ -41,7 +41,7 @@ unfoldable pub onBook : (Book → Book) → Option Book → Option Book
 onBook f none = none
 onBook f (some b) = some (f b)
 
--- 5 a cell outside; 6 a set that would change at the last generation, or a fill of more cells than generations remain, those that box and stand have in common
+-- 5 a cell outside; 6 a set that would change at the last generation, or a fill whose box and stand have more cells in common than generations remain
 unfoldable pub setNumber : Cell → ℕ → Book → ℕ
 setNumber c v b = first ((not (inside (b .shape) c) ⇒ 5) ∷ (eqb (b .count) lastGeneration && not (eqb (b .look c) v) ⇒ 6) ∷ [])
 

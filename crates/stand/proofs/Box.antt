@@ -3,7 +3,7 @@ use mathlib.Core.Path.{_≡_, refl, sym, ap, _∙_}
 use mathlib.Core.Bool.{Bool, true, false, cond, false≢true}
 use Prim.Native.Nat.{ℕ, _+_, _-_, _*_, _≤_, min, max}
 use native.Mathlib.Omega.{arith}
-use native.Mathlib.Nat.{min-eq-left, max-eq-right, min-comm, max-comm, le-mul-of-pos-right, mul-le-mul, mul-zero, zero-mul}
+use native.Mathlib.Nat.{min-eq-left, max-eq-right, min-comm, max-comm, mul-zero, zero-mul}
 use borrow.Author.Tests.{eq-eqb, eqb-true, leb-true, leb-false, ne-eqb}
 use lib.Dec.{eqb}
 use lib.IntN.{ℤ, pos, negsuc, _+ℤ_, _-ℤ_, natAbs}
@@ -19,6 +19,7 @@ use Rattle.stand.specs.declared.volume.shape.Common.the-variants as C
 use Rattle.stand.specs.declared.volume.shape.Point.{Point}
 use Rattle.stand.specs.declared.volume.shape.Region.{Region}
 use Rattle.stand.proofs.Levels.{below-law, past-law}
+use Rattle.stand.proofs.Shape.{product-some}
 
 -- ---- one axis of the common part, by levels
 
@@ -28,7 +29,6 @@ below-mono o n a b h = omega arith
 
 -- the lower coordinate first
 pub span : (o n : ℕ) {p q : ℕ} (a b : ℕ) → a ≤ b → p ≡ belowAt o n a → q ≡ belowAt o n (b + 1) → Spanned o n a b p (q - p)
-unfolding belowAt
 span o n {p} {q} a b h ep eq =
     record {
       low-is = rw (min-eq-left h) ep;
@@ -112,11 +112,7 @@ none-z n m l e = rw (e, mul-zero (n * m))
 
 -- and only there
 none-not : (n m l : ℕ) → (n ≡ 0 → ⊥) → (m ≡ 0 → ⊥) → (l ≡ 0 → ⊥) → n * m * l ≡ 0 → ⊥
-none-not n m l hn hm hl e =
-    let p : 1 ≤ n * m = mul-le-mul {n₁ = 1} {m₁ = 1} (omega arith) (omega arith) in
-    let s : 1 ≤ l = omega arith in
-    let q = le-mul-of-pos-right (n * m) s in
-    omega arith
+none-not n m l hn hm hl e = omega (arith, product-some n m l (omega arith) (omega arith) (omega arith))
 
 -- ---- the common part, or none
 

@@ -8,9 +8,9 @@ use Prim.Native.Nat.{ℕ, zero, suc, _+_, _-_, _≤_, _<_, min}
 use native.Mathlib.Omega.{arith}
 use borrow.Author.Tests.{le-leb, lt-ltb, leb-true, ltb-true}
 use lib.Dec.{leb, ltb, leb·zero}
-use lib.IntN.{ℤ, pos, negsuc, _+ℤ_, _-ℤ_, natAbs, +ℤ-comm, -ℤ-+ℤ-cancel}
+use lib.IntN.{ℤ, pos, negsuc, _+ℤ_, _-ℤ_, natAbs, +ℤ-comm}
 use lib.Signed.{leZ}
-use Rattle.arith.proofs.Order.{lt-not, ltb-not, past-lt, shift-le}
+use Rattle.arith.proofs.Order.{lt-not, ltb-not, past-lt, sub-le}
 use Rattle.stand.specs.Fill.{belowOn, belowSpot, between, betweenOn, boxCells, boxOf, highCell, highZ, lowCell, lowZ, past, planeCells, rowCells, spanning}
 use Rattle.stand.specs.Shape.{Shape, cellFrom, clampOn, clampSpot, distance, inside, pointOf}
 use Rattle.stand.specs.declared.Cell.{Cell}
@@ -33,9 +33,7 @@ module _ (o : ℤ) (n d : ℕ) (h : d < n) where
   below-at : (c : ℤ) → leb (belowOn o n c) d ≡ leZ c (o +ℤ pos d)
   unfolding belowOn
   below-at c =
-      below-by n d h (c -ℤ o)
-      ∙ sym (shift-le (c -ℤ o) (pos d) o)
-      ∙ λ i. leZ (-ℤ-+ℤ-cancel c o i) (+ℤ-comm (pos d) o i)
+      below-by n d h (c -ℤ o) ∙ sub-le c (pos d) o ∙ ap (leZ c) (+ℤ-comm (pos d) o)
 
   above-at : (c : ℤ) → ltb d (belowOn o n (c +ℤ pos 1)) ≡ leZ (o +ℤ pos d) c
   above-at c = ltb-not d (belowOn o n (c +ℤ pos 1)) ∙ ap not (below-at (c +ℤ pos 1) ∙ past-lt (o +ℤ pos d) c ∙ lt-not (o +ℤ pos d) c) ∙ twice (leZ (o +ℤ pos d) c)

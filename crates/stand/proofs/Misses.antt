@@ -7,9 +7,9 @@ use Prim.Native.Nat.{ℕ, _+_, _-_, _≤_, _<_, min}
 use native.Mathlib.Omega.{arith}
 use borrow.Author.Tests.{leb-false, leb-true}
 use lib.Dec.{leb·zero}
-use lib.IntN.{ℤ, pos, negsuc, _+ℤ_, _-ℤ_, natAbs, +ℤ-comm, +ℤ-idl, -ℤ-+ℤ-cancel}
+use lib.IntN.{ℤ, pos, negsuc, _+ℤ_, _-ℤ_, natAbs, negℤ, +ℤ-comm, +ℤ-idl}
 use lib.Signed.{leZ, ltZ}
-use Rattle.arith.proofs.Order.{lt-not, past-lt, shift-le}
+use Rattle.arith.proofs.Order.{le-sub, lt-not, past-lt, shift-le, sub-le}
 use Rattle.stand.specs.Fill.{belowOn, belowSpot, between, boxCells, boxOf, cellsIn, highCell, highZ, lowCell, lowZ, misses, missesOn, past, spanning}
 use Rattle.stand.specs.Shape.{Shape, inside, opens, product}
 use Rattle.stand.specs.declared.Cell.{Cell}
@@ -34,12 +34,12 @@ module _ (o : ℤ) (n : ℕ) (c : ℤ) where
   -- all cells lie below what is past the last
   below-all : leZ (o +ℤ pos n) c ≡ true → belowOn o n c ≡ n
   unfolding belowOn
-  below-all e = end-by n (c -ℤ o) (sym (shift-le (pos n) (c -ℤ o) o) ∙ (λ i. leZ (+ℤ-comm (pos n) o i) (-ℤ-+ℤ-cancel c o i)) ∙ e)
+  below-all e = end-by n (c -ℤ o) (le-sub (pos n) c o ∙ ap (λ (z : ℤ). leZ z c) (+ℤ-comm (pos n) o) ∙ e)
 
   -- and none below the first
   below-none : leZ c o ≡ true → belowOn o n c ≡ 0
   unfolding belowOn
-  below-none e = start-by n (c -ℤ o) (sym (shift-le (c -ℤ o) (pos 0) o) ∙ (λ i. leZ (-ℤ-+ℤ-cancel c o i) (+ℤ-idl o i)) ∙ e)
+  below-none e = start-by n (c -ℤ o) (sub-le c (pos 0) o ∙ ap (leZ c) (+ℤ-idl o) ∙ e)
 
 misses-span : (o : ℤ) (n : ℕ) (a b : ℤ) → missesOn o n a b ≡ true → belowOn o n (highZ a b +ℤ pos 1) - belowOn o n (lowZ a b) ≡ 0
 unfolding missesOn
@@ -50,7 +50,7 @@ misses-span o n a b e =
     (or-cases (ltZ (highZ a b) o) _ e)
 
 module _ (g : Shape) (a b : Cell) where
-  pub misses-none : misses g a b ≡ true → cellsIn (boxOf g a b) ≡ 0
+  misses-none : misses g a b ≡ true → cellsIn (boxOf g a b) ≡ 0
   unfolding misses boxOf spanning belowSpot past lowCell highCell cellsIn product
   misses-none e =
       ⊎-elim
@@ -83,9 +83,9 @@ unfolding missesOn belowOn
 meets-span o n a b h e =
     let t = neither (ltZ (highZ a b) o) _ e in
     let u : leZ o (highZ a b) ≡ true = by-test (leZ o (highZ a b)) (λ y. y) (λ y. absurd (false≢true (sym (t .0) ∙ lt-not o (highZ a b) ∙ ap not y))) in
-    let w = sym (shift-le (pos 0) (highZ a b -ℤ o) o) ∙ (λ i. leZ (+ℤ-idl o i) (-ℤ-+ℤ-cancel (highZ a b) o i)) ∙ u in
-    let z = sym (shift-le (pos n) (lowZ a b -ℤ o) o) ∙ (λ i. leZ (+ℤ-comm (pos n) o i) (-ℤ-+ℤ-cancel (lowZ a b) o i)) ∙ t .1 in
-    let r = sym (shift-le (lowZ a b -ℤ o) (highZ a b -ℤ o) o) ∙ (λ i. leZ (-ℤ-+ℤ-cancel (lowZ a b) o i) (-ℤ-+ℤ-cancel (highZ a b) o i)) ∙ low-high a b in
+    let w = le-sub (pos 0) (highZ a b) o ∙ ap (λ (i : ℤ). leZ i (highZ a b)) (+ℤ-idl o) ∙ u in
+    let z = le-sub (pos n) (lowZ a b) o ∙ ap (λ (i : ℤ). leZ i (lowZ a b)) (+ℤ-comm (pos n) o) ∙ t .1 in
+    let r = shift-le (lowZ a b) (highZ a b) (negℤ o) ∙ low-high a b in
     let s = below-next o n (highZ a b) in
     omega (arith, meet-by n (lowZ a b -ℤ o) (highZ a b -ℤ o) h w z r)
 

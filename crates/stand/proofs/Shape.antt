@@ -54,7 +54,7 @@ unfolding opens sections
 sections-few g e = goods _ _ _ e .few
 
 -- a product of three that are at least 1
-product-some : (a b d : ℕ) → 1 ≤ a → 1 ≤ b → 1 ≤ d → 1 ≤ a * b * d
+pub product-some : (a b d : ℕ) → 1 ≤ a → 1 ≤ b → 1 ≤ d → 1 ≤ a * b * d
 product-some a b d ha hb hd = mul-le-mul {n₁ = 1} {m₁ = 1} (mul-le-mul {n₁ = 1} {m₁ = 1} ha hb) hd
 
 pub sections-some : (g : Shape) → opens g ≡ true → 1 ≤ sections g

@@ -62,7 +62,7 @@ fn span_on(o: u64, n: u64, a: u64, b: u64) -> Span
     }
 }
 
-// The common part of the box between two corners and the stand.
+// The common part of the box between two corners and the stand, or none.
 fn box_of(v: Volume, a: Cell, b: Cell) -> Common
     ensures { λ r. ⌜ r ≡ commonOf (shapeOf v) a b ⌝ }
 {

@@ -26,7 +26,7 @@ pub struct Region {
     pub count: Point,
 }
 
-// The common part of a box and a stand.
+// The common part of a box and a stand, where there is one.
 pub enum Common {
     Is(Region),
     None,
