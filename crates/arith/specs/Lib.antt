@@ -1,4 +1,5 @@
 -- The definitions that the contracts of `arith` cite.
+pub mod Bytes
 pub mod Level
 pub mod Saturate
 pub mod Wrap

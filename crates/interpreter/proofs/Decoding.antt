@@ -1,36 +1,16 @@
 -- Laws of a call's bytes.
-use mathlib.Core.Path.{_≡_, refl, ap, _∙_}
+use mathlib.Core.Path.{_≡_, refl, ap}
 use mathlib.Core.Bool.{Bool, true, false}
 use mathlib.Core.List.{List, [], _∷_}
-use Prim.Native.Nat.{ℕ, _+_, _-_, _≤_, _<_}
+use Prim.Native.Nat.{ℕ, _≤_, _<_}
 use native.Mathlib.Omega.{arith}
 use lib.Dec.{eqb}
-use lib.IntN.{ℤ, pos, negsuc}
-use lib.Signed.{mag}
 use lib.ListN.{length}
-use mir.Syntax.{w32}
-use mir.Val.{toZ, ofZ}
-use Rattle.arith.specs.Level.{numberOf}
-use Rattle.arith.proofs.Signed.{back}
-use Rattle.interpreter.specs.Decode.{byteAt, wordAt, signedOf, lengthOf, callOf, whole, decodeOf}
+use Rattle.arith.specs.Bytes.{byteAt, wordAt}
+use Rattle.interpreter.specs.Decode.{lengthOf, callOf, whole, decodeOf}
 use Rattle.interpreter.specs.declared.Call.the-variants.{Cut}
 use Rattle.interpreter.specs.declared.decode.Decoded.the-variants.{Is, Broken}
-use borrow.Author.Tests.{lt-ltb, le-ltb, le-leb, lt-leb, ne-eqb, eqb-true, eqb-false}
-
--- ---- signed numbers
-
--- what a call answered, read back
-pub read : {z w : ℤ} → mag z < 2147483648 → z ≡ w → toZ w32 (ofZ w32 z) ≡ w
-read {z} h e = back z h ∙ e
-
-module _ (n : ℕ) where
-  pub signed-low : n < 2147483648 → numberOf (n + 2147483648) ≡ signedOf n
-  unfolding numberOf signedOf
-  signed-low h = rw (le-ltb (n + 2147483648) 2147483648 (omega arith), lt-ltb n 2147483648 h) (ap pos (omega arith))
-
-  pub signed-high : 2147483648 ≤ n → n < 4294967296 → numberOf (n - 2147483648) ≡ signedOf n
-  unfolding numberOf signedOf
-  signed-high h b = rw (lt-ltb (n - 2147483648) 2147483648 (omega arith), le-ltb n 2147483648 h) (ap negsuc (omega arith))
+use borrow.Author.Tests.{lt-ltb, le-leb, lt-leb, ne-eqb, eqb-true, eqb-false}
 
 -- ---- kinds
 

@@ -1,10 +1,10 @@
 -- The bytes of a call: document 01, 'Trial program'.
-use Prim.Native.Nat.{ℕ, _+_, _-_, _*_}
+use Prim.Native.Nat.{ℕ, _+_}
 use mathlib.Core.Bool.{Bool, cond, _&&_}
 use mathlib.Core.List.{List}
 use lib.Dec.{eqb, ltb, leb}
-use lib.IntN.{ℤ, pos, negsuc}
-use lib.ListN.{length, getD}
+use lib.ListN.{length}
+use Rattle.arith.specs.Bytes.{byteAt, shortAt, signedAt, wordAt}
 use Rattle.stand.specs.declared.Cell.{Cell}
 use Rattle.stand.specs.declared.volume.Extent.{Extent}
 use Rattle.interpreter.specs.declared.Call.{Call}
@@ -12,23 +12,7 @@ use Rattle.interpreter.specs.declared.Call.the-variants.{Open, Set, Fill
 use Rattle.interpreter.specs.declared.decode.Decoded.{Decoded}
 use Rattle.interpreter.specs.declared.decode.Decoded.the-variants.{Is, Broken}
 
--- ---- little-endian numbers, from a place on
-
-abbrev pub byteAt : List ℕ → ℕ → ℕ
-byteAt b at = getD b at 0
-
-unfoldable pub shortAt : List ℕ → ℕ → ℕ
-shortAt b at = byteAt b at + 256 * byteAt b (at + 1)
-
-unfoldable pub wordAt : List ℕ → ℕ → ℕ
-wordAt b at = shortAt b at + 65536 * shortAt b (at + 2)
-
--- two's complement
-unfoldable pub signedOf : ℕ → ℤ
-signedOf n = cond (ltb n 2147483648) (pos n) (negsuc (4294967295 - n))
-
-unfoldable pub signedAt : List ℕ → ℕ → ℤ
-signedAt b at = signedOf (wordAt b at)
+-- ---- three little-endian numbers, from a place on
 
 unfoldable pub cellAt : List ℕ → ℕ → Cell
 cellAt b at = record { x = signedAt b at; y = signedAt b (at + 4); z = signedAt b (at + 8) }

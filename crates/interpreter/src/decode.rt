@@ -2,9 +2,11 @@
 ghost use mathlib.Core.Path.{_≡_};
 ghost use Prim.Native.Nat.{_+_, _≤_, _<_};
 ghost use lib.ListN.{length};
-ghost use Rattle.interpreter.specs.Decode.{byteAt, shortAt, wordAt, signedAt, cellAt, extentAt, lengthOf, callOf, decodeOf};
+ghost use Rattle.interpreter.specs.Decode.{cellAt, extentAt, lengthOf, callOf, decodeOf};
 use crate::Call;
-use arith::level::from_level;
+use arith::bytes::short;
+use arith::bytes::signed;
+use arith::bytes::word;
 use stand::Cell;
 use stand::volume::Extent;
 
@@ -60,42 +62,6 @@ fn body(kind: u8, bytes: &[u8]) -> Call
         5 => Call::Rate(short(bytes, 1), word(bytes, 3)),
         _ => Call::Cut(word(bytes, 1)),
     }
-}
-
-fn byte(bytes: &[u8], at: usize) -> u16
-    requires { ⌜ at < length (now bytes) ⌝ }
-    ensures { λ r. ⌜ (r ≡ byteAt (now (bytes .entry)) at) × (r < 256) ⌝ }
-{
-    bytes[at] as u16
-}
-
-fn short(bytes: &[u8], at: usize) -> u16
-    requires { ⌜ at + 2 ≤ length (now bytes) ⌝ }
-    ensures { λ r. ⌜ r ≡ shortAt (now (bytes .entry)) at ⌝ }
-{
-    let low = byte(bytes, at);
-    let high = byte(bytes, at + 1);
-    low + 256 * high
-}
-
-fn word(bytes: &[u8], at: usize) -> u32
-    requires { ⌜ at + 4 ≤ length (now bytes) ⌝ }
-    ensures { λ r. ⌜ r ≡ wordAt (now (bytes .entry)) at ⌝ }
-{
-    let low = short(bytes, at) as u32;
-    let high = short(bytes, at + 2) as u32;
-    low + 65536 * high
-}
-
-fn signed(bytes: &[u8], at: usize) -> i32
-    requires { ⌜ at + 4 ≤ length (now bytes) ⌝ }
-    ensures { λ r. ⌜ r ≡ signedAt (now (bytes .entry)) at ⌝ }
-{
-    let n = word(bytes, at) as u64;
-    if n < 2147483648 {
-        return from_level(n + 2147483648);
-    }
-    from_level(n - 2147483648)
 }
 
 fn cell(bytes: &[u8], at: usize) -> Cell

@@ -9,7 +9,8 @@ use lib.Dec.{eqb, leb}
 use lib.ListN.{length, length-take, take}
 use lib.Seq.{getD-take}
 use Rattle.stand.proofs.Tests.{by-test}
-use Rattle.interpreter.specs.Decode.{byteAt, callOf, cellAt, decodeOf, extentAt, lengthOf, shortAt, signedAt, signedOf, sizeOf, wordAt}
+use Rattle.arith.specs.Bytes.{byteAt, shortAt, signedAt, signedOf, wordAt}
+use Rattle.interpreter.specs.Decode.{callOf, cellAt, decodeOf, extentAt, lengthOf, sizeOf}
 use Rattle.interpreter.specs.declared.Call.the-variants as K
 use Rattle.interpreter.specs.declared.decode.Decoded.the-variants as D
 use Rattle.interpreter.proofs.Decoding.{broken-kind, broken-short, is-whole}

@@ -7,6 +7,7 @@ use native.Mathlib.Omega.{arith}
 use lib.ListN.{drop, length, length-replicate}
 use Rattle.sheet.specs.Card.{termsOf}
 use Rattle.ledger.specs.Claim.{bookSums}
+use Rattle.arith.specs.Bytes.{Bytes}
 use Rattle.interpreter.specs.Decode.{decodeOf, lengthOf}
 use Rattle.interpreter.specs.Line.{lineOf}
 use Rattle.interpreter.specs.Room.{Lists}
@@ -21,7 +22,7 @@ use Rattle.interpreter.specs.declared.decode.Decoded.{Decoded}
 use Rattle.interpreter.specs.declared.decode.Decoded.the-variants as D
 use Rattle.scripts.specs.Page.{Page, blank, pageOf, write}
 use Rattle.scripts.specs.Quotes.{AllTyped, Held, Lent, Typed, heldAfter, runAll}
-use Rattle.scripts.specs.Said.{Bytes, onStand, refreshNumber, replyRead, replyTo, said, saidThen, saidTo, refusedOr, writeRead}
+use Rattle.scripts.specs.Said.{onStand, refreshNumber, replyRead, replyTo, said, saidThen, saidTo, refusedOr, writeRead}
 use Rattle.scripts.specs.Says.{Says}
 use Rattle.scripts.proofs.Answering.{fill-says, open-says, rate-says, set-says}
 use Rattle.scripts.proofs.Facewise.{each-rated, page-opens, rated-each}

@@ -1,6 +1,6 @@
 -- What a script prints, by its calls alone: document 01, 'Trial program', 'The book behind the sums' and 'Calls turned back'.
 -- Of the program nothing is read but how bytes make calls, how a reply is written and where a script stops: no header, storage, mark, sheet or mask.
-use Prim.Native.Nat.{ℕ, zero, suc, _<_}
+use Prim.Native.Nat.{ℕ, zero, suc}
 use mathlib.Core.Bool.{Bool, not, _||_}
 use mathlib.Core.List.{List, [], _∷_, _++_}
 use mathlib.Core.Option.{Option, none, some}
@@ -55,11 +55,6 @@ replyTo p (K.Rate f r) = refusedOr (rateNumber f) R.Quiet
 replyTo p (K.Cut c) = R.Quiet
 
 -- ---- all of them
-
--- a script: numbers of a byte
-unfoldable pub Bytes : List ℕ → Type 0
-Bytes [] = Unit {0}
-Bytes (x ∷ b) = (x < 256) × Bytes b
 
 -- an unknown kind or a short body is `broken`, and nothing is written down
 abbrev pub replyRead : Page → Decoded → Reply

@@ -12,7 +12,8 @@ use Rattle.mesh.specs.Visible.{shown}
 use Rattle.sheet.specs.Card.{Terms, payable}
 use Rattle.sheet.specs.Due.{hits}
 use Rattle.ledger.specs.Book.{Book}
-use Rattle.interpreter.specs.Decode.{byteAt, decodeOf, lengthOf}
+use Rattle.arith.specs.Bytes.{Bytes, byteAt}
+use Rattle.interpreter.specs.Decode.{decodeOf, lengthOf}
 use Rattle.interpreter.specs.Room.{Lists}
 use Rattle.interpreter.specs.Run.{runStep}
 use Rattle.interpreter.specs.Script.{printed, printedTo}
@@ -24,7 +25,7 @@ use Rattle.interpreter.specs.declared.Reply.the-variants as R
 use Rattle.interpreter.specs.declared.decode.Decoded.the-variants as D
 use Rattle.scripts.specs.Page.{Page, blank, pageOf, write}
 use Rattle.scripts.specs.Quotes.{AllTyped, Held, Lent, Typed, runAll}
-use Rattle.scripts.specs.Said.{Bytes, allRated, replyTo, said}
+use Rattle.scripts.specs.Said.{allRated, replyTo, said}
 
 -- the numbers that can refuse a call, at most
 abbrev pub numbersOf : Call → List ℕ

@@ -1,7 +1,7 @@
 -- `interpreter::decode::cell` meets its contract.
 use Rattle.interpreter.specs.Decode.{cellAt}
 use borrow.Author.Needs.{needs}
-use Rattle.interpreter.proofs.Decoding.{read}
+use Rattle.arith.proofs.bytes.Laws.{read}
 use Rattle.interpreter.proofs.decode.cell.Statement.{statement}
 use Rattle.interpreter.proofs.decode.cell.Tie as tie
 

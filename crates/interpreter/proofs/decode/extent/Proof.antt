@@ -2,7 +2,7 @@
 use mathlib.Core.Path.{ap}
 use Rattle.interpreter.specs.Decode.{extentAt}
 use borrow.Author.Needs.{needs}
-use Rattle.interpreter.proofs.Decoding.{read}
+use Rattle.arith.proofs.bytes.Laws.{read}
 use Rattle.interpreter.proofs.decode.extent.Statement.{statement}
 use Rattle.interpreter.proofs.decode.extent.Tie as tie
 

@@ -1,8 +1,12 @@
--- `interpreter::decode::word` meets its contract.
-use Rattle.interpreter.specs.Decode.{wordAt}
+-- `arith::bytes::word` meets its contract.
+use Rattle.arith.specs.Bytes.{wordAt}
+use Rattle.arith.proofs.bytes.Laws.{word-none}
 use borrow.Author.Needs.{needs}
-use Rattle.interpreter.proofs.decode.word.Statement.{statement}
-use Rattle.interpreter.proofs.decode.word.Tie as tie
+use Rattle.arith.proofs.bytes.word.Statement.{statement}
+use Rattle.arith.proofs.bytes.word.Tie as tie
+
+returns : tie.Need-returns
+returns c = word-none _ _ (c .if1 .taken)
 
 short-requires : tie.Need-short-requires
 short-requires c κs = search needs
@@ -25,14 +29,15 @@ mul-result c = search needs
 add-result : tie.Need-add-result
 add-result c = search needs
 
-returns : tie.Need-returns
+returns-2 : tie.Need-returns-2
 unfolding wordAt
-returns c = cc
+returns-2 c = cc
 
 pub word-spec : {M : Type 1} → statement M
 word-spec =
     tie.close
     (tie.spec
+    returns
     short-requires
     cast-low
     add-short
@@ -40,4 +45,4 @@ word-spec =
     cast-high
     mul-result
     add-result
-    returns)
+    returns-2)

@@ -1,10 +1,10 @@
--- `interpreter::decode::signed` meets its contract.
+-- `arith::bytes::signed` meets its contract.
 use mathlib.Core.Path.{ap, _∙_}
-use Rattle.interpreter.specs.Decode.{signedOf, signedAt}
+use Rattle.arith.specs.Bytes.{signedOf, signedAt}
+use Rattle.arith.proofs.bytes.Laws.{read, signed-low, signed-high}
 use borrow.Author.Needs.{needs}
-use Rattle.interpreter.proofs.Decoding.{read, signed-low, signed-high}
-use Rattle.interpreter.proofs.decode.signed.Statement.{statement}
-use Rattle.interpreter.proofs.decode.signed.Tie as tie
+use Rattle.arith.proofs.bytes.signed.Statement.{statement}
+use Rattle.arith.proofs.bytes.signed.Tie as tie
 
 word-requires : tie.Need-word-requires
 word-requires c κs = search needs

@@ -1,0 +1,2 @@
+-- Laws of numbers in lists of bytes.
+pub mod Laws
