@@ -94,7 +94,7 @@ zeros zero i = refl
 zeros (suc n) zero = refl
 zeros (suc n) (suc i) = zeros n i
 
-none-occupied : (m n : ℕ) → occupied (replicate m 0) n ≡ 0
+pub none-occupied : (m n : ℕ) → occupied (replicate m 0) n ≡ 0
 unfolding occupied
 none-occupied m zero = refl
 none-occupied m (suc n) = rw (zeros m n, none-occupied m n)

@@ -46,7 +46,7 @@ module _ (v : Volume) (ok : wellFormed v ≡ true) where
       let g = parts in
       rules-none (shapeOf v) (sections-few (shapeOf v) (formed-opens v ok)) (rw (g .x .last, g .y .last, g .z .last))
 
-  same-volume : volumeOf (shapeOf v) 0 0 ≡ anew v
+  pub same-volume : volumeOf (shapeOf v) 0 0 ≡ anew v
   unfolding volumeOf shapeOf
   same-volume =
       let g = parts in

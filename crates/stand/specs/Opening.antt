@@ -34,8 +34,12 @@ lastInside o n = lastFits (o .x) (n .x) && (lastFits (o .y) (n .y) && lastFits (
 abbrev pub shapeRules : Shape → List Rule
 shapeRules g = (tooMany g ⇒ 1) ∷ (not (lastInside (g .origin) (g .size)) ⇒ 2) ∷ []
 
+-- refusals of opening a stand of this shape on storage of these lengths
+abbrev pub openRules : Shape → Lengths → List Rule
+openRules g l = shapeRules g ++ (not (storageFits (sections g) l) ⇒ 4) ∷ []
+
 unfoldable pub openRefusal : Shape → Lengths → ℕ
-openRefusal g l = first (shapeRules g ++ (not (storageFits (sections g) l) ⇒ 4) ∷ [])
+openRefusal g l = first (openRules g l)
 
 -- the header alone, before storage is looked at
 unfoldable pub headerCall : Cell → Extent → Answer Volume

@@ -44,8 +44,8 @@ fn fold_three(accumulator: u64, x: i32, y: i32, z: i32) -> u64
     fold(b, pattern(z))
 }
 
-// The digest of the shape.
-fn fold_shape(v: Volume) -> u64
+// The digest of the shape, before the hashes. Rules out the sizes before the chunks, and another start.
+pub fn fold_shape(v: Volume) -> u64
     ensures { λ r. ⌜ r ≡ foldWords digestStart (shapeWords v) ⌝ }
 {
     let o = v.origin;

@@ -37,8 +37,8 @@ pub(crate) fn lengths_fit(
     last as u64 == n
 }
 
-// The refusal of a header and of storage with these lengths, 0 for none.
-pub(crate) fn storage_code(
+// The refusal (3, 4) of a header and of storage with these lengths, 0 for none. Rules out 4 for a header that 3 refuses, and 0 for a list too long.
+pub fn storage_code(
     v: Volume,
     cells: usize,
     hashes: usize,

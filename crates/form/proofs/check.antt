@@ -1,0 +1,2 @@
+-- Laws of the check.
+pub mod Laws

@@ -1,0 +1,2 @@
+-- Laws of the digest.
+pub mod Laws

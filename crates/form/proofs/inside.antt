@@ -1,0 +1,2 @@
+-- Laws of slots inside.
+pub mod Laws

@@ -1,0 +1,3 @@
+-- Laws of loading.
+pub mod Header
+pub mod Laws

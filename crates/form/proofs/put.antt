@@ -1,0 +1,2 @@
+-- Laws of writing bytes.
+pub mod Laws

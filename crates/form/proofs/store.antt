@@ -1,0 +1,3 @@
+-- Laws of storing.
+pub mod Laws
+pub mod Slots
