@@ -11,77 +11,78 @@ use Rattle.stand.specs.Opening.{openRefusal, openedShape}
 use Rattle.stand.specs.Refusal as R
 use Rattle.stand.specs.Shape as H
 use Rattle.stand.specs.Shape.{counted, sections}
-use Rattle.stand.specs.Storage.{Lengths, Storage, freshStorage, joined, lengthsOf, storage, storageFits, volumeOf}
-use Rattle.stand.specs.declared.Cell.{Cell}
+use Rattle.stand.specs.Storage.{Lengths, freshStorage, joined, lengthsOf, storage, storageFits, volumeOf}
 use Rattle.stand.specs.declared.volume.Extent.{Extent}
 use Rattle.sheet.specs.Card.{Terms, limit, payable, termsOf}
 use Rattle.ledger.specs.Book as B
-use Rattle.ledger.specs.Book.{Book, openBook, writeOpen}
-use Rattle.ledger.specs.Breadth.{Breadth, Grows, opening}
+use Rattle.ledger.specs.Book.{Book, Origin, Source, loadBook, openBook, sourceBook, writeLoad, writeOpen, writeSource}
+use Rattle.ledger.specs.Breadth.{Breadth, Grows, Pays, opening}
 use Rattle.ledger.specs.Calls as C
-use Rattle.ledger.specs.Calls.{Call, Effect, Four, Op, Origin, accepted, book, call, feed, given, own, result, run, step, write}
+use Rattle.ledger.specs.Calls.{Call, Effect, Four, Op, accepted, book, call, effectOf, feed, given, own, result, run, step, write}
 use Rattle.ledger.specs.Claim.{All, Lent, Priced, Start, bookAfter, fourAfter}
 use Rattle.ledger.specs.Trestles.{cell, extent}
+use Rattle.ledger.proofs.Tells.{sourceRefusal}
 use Rattle.ledger.proofs.Claimed.{append-all, tells-after, written-append}
 use Rattle.ledger.proofs.Kept.{AcceptedBy, LentBy}
 use Rattle.ledger.proofs.Enough.{Paid, open-accepted}
 use Rattle.ledger.proofs.Starting.{given-number, reaches, stand-accepted, starts}
-use Rattle.ledger.proofs.Finishes.{priceable}
+use Rattle.ledger.proofs.Finishes.{priceable, source-rated}
 use Rattle.ledger.proofs.Following.{own-lent, own-lists, refused-by-4}
 use Rattle.ledger.proofs.Going.{priced-so, wide}
 use Rattle.ledger.proofs.Premises.{answers-4, edits-own, keeps-edits, keeps-leaves, keeps-refreshes, keeps-refused}
 
 -- ---- the stand opened anew
 
-write-opened : (b : Book) (l : Lengths) (o : Cell) (size : Extent) → openRefusal (openedShape o size) l ≡ 0 → writeOpen b l o size ≡ openBook (openedShape o size)
-unfolding writeOpen B.unless
-write-opened b l o size e = ap (λ (n : ℕ). B.unless n b (openBook (openedShape o size))) e
+write-opened : (b : Book) (l : Lengths) (x : Source) → sourceRefusal x l ≡ 0 → writeSource b l x ≡ sourceBook x
+unfolding writeOpen writeLoad B.unless
+write-opened b l (Source.empty o size) e = ap (λ (n : ℕ). B.unless n b (openBook (openedShape (o .cell) size))) e
+write-opened b l (Source.form f) e = ap (λ (n : ℕ). B.unless n b (loadBook (f .bytes))) e
 
-module _ (s : Four) (c : Call) (o : Origin) (size : Extent) (b : Book) where
+module _ (s : Four) (c : Call) (x : Source) (b : Book) where
   abbrev Writes : Effect → Type 0
-  Writes e = AcceptedBy s c e → write b (lengthsOf (storage (given s c .state))) e ≡ openBook (openedShape (o .cell) size)
+  Writes e = AcceptedBy s c e → write b (lengthsOf (storage (given s c .state))) e ≡ sourceBook x
 
-  opened-writes : Writes (Effect.opensStand o size)
-  unfolding write result C.opened O.openCall
-  opened-writes a = write-opened b (lengthsOf (storage (given s c .state))) (o .cell) size (given-number _ (storage (given s c .state)) (openedShape (o .cell) size) a)
+  opened-writes : Writes (Effect.opensStand x)
+  unfolding write result C.opened
+  opened-writes a = write-opened b (lengthsOf (storage (given s c .state))) x (given-number (storage (given s c .state)) x a)
 
 book-first : (a : Start) (b : Book) (cs : List Call) → book b (feed (a .four) (a .first ∷ cs)) ≡ bookAfter a cs
 unfolding bookAfter book feed accepted
 book-first a b cs =
     ap (λ (x : Book). book x (feed (step (a .four) (a .first)) cs))
-    (subst (Writes (a .four) (a .first) (a .origin) (a .size) b) (sym (a .opens)) (opened-writes (a .four) (a .first) (a .origin) (a .size) b) (a .is-accepted))
+    (subst (Writes (a .four) (a .first) (a .source) b) (sym (a .opens)) (opened-writes (a .four) (a .first) (a .source) b) (a .is-accepted))
 
-module _ (a : Start) (xs : List Call) (w : All Lent (fourAfter a []) xs) (o : Origin) (size : Extent) (st : Storage)
-    (e : openRefusal (openedShape (o .cell) size) (lengthsOf st) ≡ 0) where
-  abbrev standOpening : Call
-  standOpening = call (some st) none (Op.openStand o size)
-
+module _ (a : Start) (xs : List Call) (w : All Lent (fourAfter a []) xs) (c : Call) (x : Source) (p : effectOf (c .op) ≡ Effect.opensStand x)
+    (e : sourceRefusal x (lengthsOf (storage (given (fourAfter a xs) c .state))) ≡ 0) where
   abbrev more : List Call
-  more = xs ++ (standOpening ∷ [])
+  more = xs ++ (c ∷ [])
 
   lent-anew : All Lent (fourAfter a []) more
   unfolding fourAfter run All Lent
-  lent-anew = append-all Lent (step (a .four) (a .first)) xs (standOpening ∷ []) w (tt, tt)
+  lent-anew = append-all Lent (step (a .four) (a .first)) xs (c ∷ []) w (subst (LentBy (fourAfter a xs) c) (sym p) tt, tt)
 
-  book-anew : bookAfter a more ≡ openBook (openedShape (o .cell) size)
-  unfolding book feed write given
-  book-anew = written-append a xs (standOpening ∷ []) ∙ write-opened (bookAfter a xs) (lengthsOf st) (o .cell) size e
-
-  paid-none : (t : Terms) (b : Book) → b ≡ openBook (openedShape (o .cell) size) → Paid t (b .shape) (b .look)
-  unfolding openBook payable
-  paid-none t b p c i = ap (λ (b : Book). payable (t .rates) (b .look c)) p
+  book-anew : bookAfter a more ≡ sourceBook x
+  unfolding book feed write
+  book-anew =
+      written-append a xs (c ∷ [])
+      ∙ ap (write (bookAfter a xs) (lengthsOf (storage (given (fourAfter a xs) c .state)))) p
+      ∙ write-opened (bookAfter a xs) (lengthsOf (storage (given (fourAfter a xs) c .state))) x e
 
   -- opening the sheet writes nothing into the book
   same-book : (l m : List ℕ) (t : Terms) → bookAfter a (more ++ (opening t (some l) m ∷ [])) ≡ bookAfter a more
   unfolding book feed write
   same-book l m t = written-append a more (opening t (some l) m ∷ [])
 
-  anew : (l m m′ : List ℕ) (t : Terms) → length l ≡ sections (openedShape (o .cell) size) * 3 → 256 ≤ length m → 256 ≤ length m′ → t .cut ≤ limit
-      → Priced a more (opening t (some l) m) [] (own (Op.refresh t m′)) t
-  unfolding All openBook
-  anew l m m′ t len room room′ cut =
-      priced-so a more lent-anew t (some l) m m′ room room′ cut (len ∙ ap (λ (b : Book). sections (b .shape) * 3) (sym book-anew)) (paid-none t (bookAfter a more) book-anew) [] tt tt
-      (paid-none t (bookAfter a (more ++ (opening t (some l) m ∷ []))) (same-book l m t ∙ book-anew))
+  module _ (t : Terms) (r : Pays (t .rates) (Effect.opensStand x)) where
+    paid-anew : (b : Book) → b ≡ sourceBook x → Paid t (b .shape) (b .look)
+    paid-anew b q c i = ap (λ (b : Book). payable (t .rates) (b .look c)) q ∙ source-rated (t .rates) x r c
+
+    anew : (l m m′ : List ℕ) → length l ≡ sections (sourceBook x .shape) * 3 → 256 ≤ length m → 256 ≤ length m′ → t .cut ≤ limit
+        → Priced a more (opening t (some l) m) [] (own (Op.refresh t m′)) t
+    unfolding All
+    anew l m m′ len room room′ cut =
+        priced-so a more lent-anew t (some l) m m′ room room′ cut (len ∙ ap (λ (b : Book). sections (b .shape) * 3) (sym book-anew)) (paid-anew (bookAfter a more) book-anew) [] tt tt
+        (paid-anew (bookAfter a (more ++ (opening t (some l) m ∷ []))) (same-book l m t ∙ book-anew))
 
 -- ---- from one cell to 17
 
@@ -98,8 +99,11 @@ row = extent 17 1 1
 abbrev blank : Four
 blank = record { state = joined (volumeOf (openedShape (cell 0 0 0) row) 7 7) (freshStorage 1); marks = record { sheet = 5 }; sheet = 1 ∷ 2 ∷ 3 ∷ [] }
 
-opens-one : openRefusal (openedShape (cell 0 0 0) oneCell) (lengthsOf (freshStorage 1)) ≡ 0
-unfolding openRefusal openedShape O.sizesOf O.sizeOn O.tooMany O.lastInside H.sections H.product H.counted H.chunksIn H.chunksOn H.lastFits R.first storageFits freshStorage
+abbrev firstOpening : Call
+firstOpening = own (Op.openStand corner oneCell)
+
+opens-one : openRefusal (openedShape (cell 0 0 0) oneCell) (lengthsOf (storage (given blank firstOpening .state))) ≡ 0
+unfolding given openRefusal openedShape O.sizesOf O.sizeOn O.tooMany O.lastInside H.sections H.product H.counted H.chunksIn H.chunksOn H.lastFits R.first storageFits freshStorage
 opens-one = refl
 
 opens-two : openRefusal (openedShape (cell 0 0 0) row) (lengthsOf (freshStorage 2)) ≡ 0
@@ -110,11 +114,10 @@ abbrev small : Start
 small =
     record {
       four = blank;
-      first = own (Op.openStand corner oneCell);
-      origin = corner;
-      size = oneCell;
+      first = firstOpening;
+      source = Source.empty corner oneCell;
       opens = refl;
-      is-accepted = stand-accepted blank none none corner oneCell opens-one;
+      is-accepted = stand-accepted blank firstOpening (Source.empty corner oneCell) refl opens-one;
     }
 
 one-section : sections (bookAfter small [] .shape) ≡ 1
@@ -155,8 +158,11 @@ first-opened =
     open-accepted (fourAfter small []) (bookAfter small []) (tells-after small [] none-yet) (free) slots
     (record { mask = omega arith; cut = omega arith; paid = small-paid }) none (small-sheet ∙ ap (λ (n : ℕ). n * 3) (sym one-section))
 
+abbrev standOpening : Call
+standOpening = call (some (freshStorage 2)) none (Op.openStand corner row)
+
 grown : Grows
-unfolding openBook
+unfolding openBook given
 grown =
     record {
       start = small;
@@ -168,22 +174,23 @@ grown =
       terms = free;
       one-section = one-section;
       opened = first-opened;
-      two-sections = ap (λ (b : Book). sections (b .shape)) (book-anew small sheetFirst first-lent corner row (freshStorage 2) opens-two) ∙ two-sections;
-      priced = anew small sheetFirst first-lent corner row (freshStorage 2) opens-two (replicate 6 0) slots slots (free)
+      two-sections = ap (λ (b : Book). sections (b .shape)) (book-anew small sheetFirst first-lent standOpening (Source.empty corner row) refl opens-two) ∙ two-sections;
+      priced = anew small sheetFirst first-lent standOpening (Source.empty corner row) refl opens-two free tt (replicate 6 0) slots slots
           (ap (λ (n : ℕ). n * 3) (sym two-sections)) (omega arith) (omega arith) (omega arith);
     }
 
 pub breadth : Breadth
-unfolding Lent
+unfolding Lent given openBook loadBook
 breadth =
     record {
-      starts = starts;
+      starts = λ s st l o size e. starts s (call st l (Op.openStand o size)) (Source.empty o size) refl e;
+      starts-loaded = λ s st l f e. starts s (call st l (Op.loadStand f)) (Source.form f) refl e;
       fresh = λ g k l e r. reaches g e k l r;
       book-is = book-first;
       own-lists = own-lists;
       refused-by-4 = refused-by-4;
       answers-4 = answers-4;
-      stand-anew = λ s c o size h. subst (LentBy s c) (sym h) tt;
+      stand-anew = λ s c x h. subst (LentBy s c) (sym h) tt;
       edits-own = edits-own;
       keeps-refused = keeps-refused;
       keeps-edits = keeps-edits;
@@ -195,6 +202,7 @@ breadth =
       leaves-any = λ s c e. subst (LentBy s c) (sym e) tt;
       wide = wide;
       priceable = priceable;
-      anew = λ a xs w o size st l m m′ t e. anew a xs w o size st e l m m′ t;
+      anew = λ a xs w o size st l m m′ t e. anew a xs w (call (some st) none (Op.openStand o size)) (Source.empty o size) refl e t tt l m m′;
+      loaded-anew = λ a xs w f st l m m′ t e len p. anew a xs w (call (some st) none (Op.loadStand f)) (Source.form f) refl e t p l m m′ len;
       grows = grown;
     }

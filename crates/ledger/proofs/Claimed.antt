@@ -5,16 +5,14 @@ use mathlib.Core.List.{List, [], _∷_, _++_}
 use mathlib.Core.Option.{Option, none, some}
 use Prim.Native.Nat.{ℕ, _-_, _≤_, _<_}
 use native.Mathlib.Omega.{arith}
-use Rattle.stand.specs.Opening as O
-use Rattle.stand.specs.Opening.{Opening, openedShape}
+use Rattle.stand.specs.Opening.{Opening}
 use Rattle.stand.specs.Shape.{sections}
-use Rattle.stand.specs.Storage.{Storage, freshState, joined, lengthsOf, storage}
-use Rattle.stand.specs.declared.volume.Extent.{Extent}
+use Rattle.stand.specs.Storage.{Storage, joined, lengthsOf, storage}
 use Rattle.sheet.specs.Card.{Terms}
 use Rattle.sheet.specs.Rows.{rowAt}
-use Rattle.ledger.specs.Book.{Book, openBook, writeOpen}
+use Rattle.ledger.specs.Book.{Book, Source, sourceBook}
 use Rattle.ledger.specs.Calls as C
-use Rattle.ledger.specs.Calls.{Call, Effect, Four, Op, Origin, accepted, book, call, effectOf, feed, given, headerAfter, isGiven, leftBy, orElse, ownAfter, result, run, step, write}
+use Rattle.ledger.specs.Calls.{Call, Effect, Four, Op, accepted, book, call, effectOf, feed, given, headerAfter, isGiven, leftBy, orElse, ownAfter, result, run, sourceCall, step, write}
 use Rattle.ledger.specs.Claim.{All, Claim, Keeps, Lent, Priced, Right, Spared, Start, bookAfter, fourAfter}
 use Rattle.ledger.proofs.Kept.{AcceptedBy, stepBy, tells-step}
 use Rattle.ledger.proofs.Measured.{mark-count, row-kept}
@@ -23,7 +21,7 @@ use Rattle.ledger.proofs.Right.{right}
 use Rattle.ledger.proofs.Sheeted.{refresh-measures}
 use Rattle.ledger.proofs.Shows.{Clean}
 use Rattle.ledger.proofs.Since.{none-todo}
-use Rattle.ledger.proofs.Tells.{Tells, by-opening, open-passed, tells-fresh}
+use Rattle.ledger.proofs.Tells.{Tells, by-opening, tells-source}
 
 -- ---- one list after another
 
@@ -109,34 +107,29 @@ module _ (s : Four) (b : Book) (k : Tells (s .state) b) (t : Terms) (m : List �
 
 -- ---- the first call
 
-module _ (s : Four) (p : Origin) (size : Extent) where
+module _ (s : Four) (x : Source) where
   -- the state that an accepted opening leaves
   abbrev Fresh : Option Storage → Opening → Book → Type 0
   Fresh st r b =
       isGiven (r .answer) ≡ true
-      → Tells (joined (headerAfter (r .answer) (s .state .volume)) (ownAfter st (isGiven (r .answer)) (storage (s .state)) (r .storage))) (openBook (openedShape (p .cell) size))
+      → Tells (joined (headerAfter (r .answer) (s .state .volume)) (ownAfter st (isGiven (r .answer)) (storage (s .state)) (r .storage))) (sourceBook x)
 
-  fresh-so : (st : Option Storage) → Fresh st (O.openCall (orElse st (storage (s .state))) (p .cell) size) (openBook (openedShape (p .cell) size))
-  unfolding freshState openedShape writeOpen
+  fresh-so : (st : Option Storage) → Fresh st (sourceCall (orElse st (storage (s .state))) x) (sourceBook x)
   fresh-so none =
-      by-opening (λ r b. Fresh none r b) (storage (s .state)) (openBook (openedShape (p .cell) size)) (p .cell) size (λ n e. absurd (false≢true e))
-      (λ z e. tells-fresh (openedShape (p .cell) size) (open-passed (p .cell) size (lengthsOf (storage (s .state))) z .0) (p .ranged))
-  fresh-so (some st) =
-      by-opening (λ r b. Fresh (some st) r b) st (openBook (openedShape (p .cell) size)) (p .cell) size (λ n e. absurd (false≢true e))
-      (λ z e. tells-fresh (openedShape (p .cell) size) (open-passed (p .cell) size (lengthsOf st) z .0) (p .ranged))
+      by-opening (Fresh none) (storage (s .state)) (sourceBook x) x (λ n e. absurd (false≢true e)) (λ z e. tells-source x (lengthsOf (storage (s .state))) z)
+  fresh-so (some st) = by-opening (Fresh (some st)) st (sourceBook x) x (λ n e. absurd (false≢true e)) (λ z e. tells-source x (lengthsOf st) z)
 
   abbrev Opened : Call → Effect → Type 0
-  Opened c e = AcceptedBy s c e → Tells (stepBy s c e .state) (openBook (openedShape (p .cell) size))
+  Opened c e = AcceptedBy s c e → Tells (stepBy s c e .state) (sourceBook x)
 
-  opened-so : (st : Option Storage) (l : Option (List ℕ)) (o : Op) → Opened (call st l o) (Effect.opensStand p size)
+  opened-so : (st : Option Storage) (l : Option (List ℕ)) (o : Op) → Opened (call st l o) (Effect.opensStand x)
   unfolding leftBy given result C.opened
   opened-so st l o e = fresh-so st e
 
 tells-start : (a : Start) → Tells (fourAfter a [] .state) (bookAfter a [])
 unfolding fourAfter bookAfter run book feed step accepted
 tells-start a =
-    subst (Opened (a .four) (a .origin) (a .size) (a .first)) (sym (a .opens))
-    (opened-so (a .four) (a .origin) (a .size) (a .first .storage) (a .first .sheet) (a .first .op)) (a .is-accepted)
+    subst (Opened (a .four) (a .source) (a .first)) (sym (a .opens)) (opened-so (a .four) (a .source) (a .first .storage) (a .first .sheet) (a .first .op)) (a .is-accepted)
 
 module _ (a : Start) where
   pub after-append : (xs ys : List Call) → fourAfter a (xs ++ ys) ≡ run (fourAfter a xs) ys
@@ -145,7 +138,7 @@ module _ (a : Start) where
 
   pub written-append : (xs ys : List Call) → bookAfter a (xs ++ ys) ≡ book (bookAfter a xs) (feed (fourAfter a xs) ys)
   unfolding fourAfter bookAfter
-  written-append xs ys = book-append (step (a .four) (a .first)) (openBook (openedShape (a .origin .cell) (a .size))) xs ys
+  written-append xs ys = book-append (step (a .four) (a .first)) (sourceBook (a .source)) xs ys
 
   pub lent-append : (P : Four → Call → Type 0) (xs ys : List Call) → All P (fourAfter a []) (xs ++ ys) → All P (fourAfter a []) xs × All P (fourAfter a xs) ys
   unfolding fourAfter run
@@ -153,7 +146,7 @@ module _ (a : Start) where
 
   pub tells-after : (cs : List Call) → All Lent (fourAfter a []) cs → Tells (fourAfter a cs .state) (bookAfter a cs)
   unfolding fourAfter bookAfter run book feed
-  tells-after cs w = tells-run (step (a .four) (a .first)) (openBook (openedShape (a .origin .cell) (a .size))) cs w (tells-start a)
+  tells-after cs w = tells-run (step (a .four) (a .first)) (sourceBook (a .source)) cs w (tells-start a)
 
   -- a sheet opened after xs, and calls that keep to its terms
   pub shows-later : (t : Terms) (m : List ℕ) (xs : List Call) (opening : Call) (ys : List Call) → All Lent (fourAfter a []) (xs ++ (opening ∷ ys))

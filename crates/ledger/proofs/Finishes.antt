@@ -7,13 +7,15 @@ use native.Mathlib.Omega.{arith}
 use borrow.Author.Tests.{le-leb, lt-ltb}
 use lib.Dec.{eqb, leb, ltb}
 use lib.ListN.{getD, length, length-replicate, replicate}
-use Rattle.stand.specs.Opening.{openedShape}
-use Rattle.stand.specs.Shape.{Shape}
+use Rattle.stand.specs.Shape.{slot}
 use Rattle.stand.specs.Storage.{Lengths, lengthsOf, storage}
 use Rattle.stand.specs.declared.Cell.{Cell}
 use Rattle.stand.proofs.Kept.{zeros}
+use Rattle.form.specs.Entries.{Entry, lookup}
+use Rattle.form.specs.Form.{entriesIn, headShape}
+use Rattle.mesh.specs.Cover.{Each}
 use Rattle.sheet.specs.Card.{Terms, limit, payable, rated}
-use Rattle.ledger.specs.Book.{Book, Edit, noteBook, openBook, sameCell, setAll, setBook, writeFill, writeOpen, writeSet}
+use Rattle.ledger.specs.Book.{Book, Edit, Source, loadBook, noteBook, openBook, sameCell, setAll, setBook, sourceBook, writeFill, writeLoad, writeOpen, writeSet}
 use Rattle.ledger.specs.Breadth.{AllPay, Later, Pays, Priceable, later}
 use Rattle.ledger.specs.Calls.{Call, Effect, Four, book, effectOf, feed, given, step, write}
 use Rattle.ledger.proofs.Books.{by-book}
@@ -39,13 +41,24 @@ module _ (rates : List ℕ) where
   all-rated [] b v p h = h
   all-rated (c ∷ cs) b v p h = all-rated cs (setBook b c v) v p (set-rated b c v p h)
 
-  pub open-rated : (g : Shape) → AllRated (openBook g)
-  unfolding openBook payable
-  open-rated g c = refl
+  lookup-rated : (es : List Entry) (k : ℕ) → Each (λ e. payable rates (e .finish) ≡ true) es → payable rates (lookup es k) ≡ true
+  unfolding lookup payable
+  lookup-rated [] k h = refl
+  lookup-rated (e ∷ es) k h = one (eqb k (e .slot)) (lookup-rated es k (h .1))
+    where
+      one : (x : Bool) → payable rates (lookup es k) ≡ true → payable rates (cond x (e .finish) (lookup es k)) ≡ true
+      one true p = h .0
+      one false p = p
+
+  pub source-rated : (x : Source) → Pays rates (Effect.opensStand x) → AllRated (sourceBook x)
+  unfolding openBook loadBook payable
+  source-rated (Source.empty o size) p c = refl
+  source-rated (Source.form f) p c = lookup-rated (entriesIn (f .bytes)) (slot (headShape (f .bytes)) c) p
 
   write-rated : (b : Book) (l : Lengths) (e : Effect) → Pays rates e → AllRated b → AllRated (write b l e)
-  unfolding write writeOpen writeSet writeFill
-  write-rated b l (Effect.opensStand o size) p h = unless-so AllRated _ b _ h (open-rated (openedShape (o .cell) size))
+  unfolding write writeOpen writeLoad writeSet writeFill
+  write-rated b l (Effect.opensStand (Source.empty o size)) p h = unless-so AllRated _ b _ h (source-rated (Source.empty o size) p)
+  write-rated b l (Effect.opensStand (Source.form f)) p h = unless-so AllRated _ b _ h (source-rated (Source.form f) p)
   write-rated b l (Effect.edits (Edit.one c v)) p h = unless-so AllRated _ b _ h (set-rated b c v p h)
   write-rated b l (Effect.edits (Edit.box c d v)) p h = unless-so AllRated _ b _ h (all-rated _ b v p h)
   write-rated b l (Effect.opensSheet t m) p h = h
@@ -61,9 +74,14 @@ module _ (rates : List ℕ) where
 
 -- ---- a card for a list
 
+abbrev finishes : List Entry → ℕ
+finishes [] = 0
+finishes (e ∷ es) = e .finish + finishes es
+
 -- no finish that a call brings is above it
 abbrev top : Effect → ℕ
-top (Effect.opensStand o size) = 0
+top (Effect.opensStand (Source.empty o size)) = 0
+top (Effect.opensStand (Source.form f)) = finishes (entriesIn (f .bytes))
 top (Effect.edits (Edit.one c v)) = v
 top (Effect.edits (Edit.box c d v)) = v
 top (Effect.opensSheet t m) = 0
@@ -104,8 +122,13 @@ module _ (n : ℕ) where
       or-so true b e = refl
       or-so false b e = e
 
+  low-entries : (es : List Entry) → finishes es ≤ n → Each (λ e. payable nothings (e .finish) ≡ true) es
+  low-entries [] h = tt
+  low-entries (e ∷ es) h = (low-paid (e .finish) (omega arith), low-entries es (omega arith))
+
   low-pays : (e : Effect) → top e ≤ n → Pays nothings e
-  low-pays (Effect.opensStand o size) h = tt
+  low-pays (Effect.opensStand (Source.empty o size)) h = tt
+  low-pays (Effect.opensStand (Source.form f)) h = low-entries (entriesIn (f .bytes)) h
   low-pays (Effect.edits (Edit.one c v)) h = low-paid v h
   low-pays (Effect.edits (Edit.box c d v)) h = low-paid v h
   low-pays (Effect.opensSheet t m) h = tt

@@ -9,19 +9,18 @@ use borrow.Author.Tests.{eqb-false, ne-eqb, not-true}
 use lib.Dec.{eqb}
 use lib.ListN.{length}
 use Rattle.stand.specs.Edit.{fitting}
-use Rattle.stand.specs.Opening as O
-use Rattle.stand.specs.Opening.{openedShape}
 use Rattle.stand.specs.Shape as H
 use Rattle.stand.specs.Shape.{Shape, chunkOf, counted, sections, shapeOf}
 use Rattle.stand.specs.Storage.{Lengths, Storage, lengthsOf, storage, storageFits, storageOf}
 use Rattle.stand.specs.declared.Cell.{Cell}
 use Rattle.stand.proofs.Shape.{sections-some}
-use Rattle.stand.proofs.Tests.{by-test}
+use Rattle.stand.proofs.Tests.{both, by-test}
+use Rattle.form.specs.Form.{hasHead}
 use Rattle.mesh.specs.Cover.{Each}
 use Rattle.mesh.specs.Near.{near}
 use Rattle.sheet.specs.Calls.{openFits, refreshFits}
 use Rattle.sheet.specs.Card.{Terms}
-use Rattle.ledger.specs.Book.{Book, Edit, noteBook, setBook, writeSet}
+use Rattle.ledger.specs.Book.{Book, Edit, Source, loadBook, noteBook, openBook, setBook, sourceBook, writeSet}
 use Rattle.ledger.specs.Breadth.{Later, later, sets}
 use Rattle.ledger.specs.Calls as C
 use Rattle.ledger.specs.Calls.{Call, Effect, Four, Op, accepted, book, call, edited, effectOf, feed, given, own, result, run, sheeted, step, unfit, write}
@@ -31,7 +30,7 @@ use Rattle.ledger.proofs.Kept.{AcceptedBy, LentBy, tells-step}
 use Rattle.ledger.proofs.Lent.{fill-unfit, set-unfit}
 use Rattle.ledger.proofs.Sheeted.{both-ways, open-fits, refresh-passed}
 use Rattle.ledger.proofs.Shows.{Clean, unless-so}
-use Rattle.ledger.proofs.Tells.{Tells, open-passed}
+use Rattle.ledger.proofs.Tells.{Tells, source-passed}
 use Rattle.ledger.proofs.Starting.{given-number}
 
 -- ---- the four's own lists
@@ -41,7 +40,7 @@ unfolding Lent
 own-lent s o = go (effectOf o)
   where
     go : (e : Effect) → LentBy s (own o) e
-    go (Effect.opensStand p size) = tt
+    go (Effect.opensStand x) = tt
     go (Effect.edits e) = tt
     go (Effect.opensSheet t m) = tt
     go (Effect.refreshes t m) = (tt, tt)
@@ -56,7 +55,7 @@ own-lists s (o ∷ os) = (own-lent s o, own-lists (step s (own o)) os)
 
 -- they may be lent
 pub uses-so : (e : Effect) (st : Option Storage) (l : Option (List ℕ)) {A : Type 0} → A → Uses e st l A
-uses-so (Effect.opensStand o size) st l a = tt
+uses-so (Effect.opensStand x) st l a = tt
 uses-so (Effect.edits e) none l a = tt
 uses-so (Effect.edits e) (some st) l a = a
 uses-so (Effect.opensSheet t m) none l a = tt
@@ -67,11 +66,16 @@ uses-so (Effect.refreshes t m) (some st) none a = (a, tt)
 uses-so (Effect.refreshes t m) (some st) (some l) a = (a, a)
 uses-so Effect.leaves st l a = tt
 
+unfit-source : (s : Four) (x : Source) → unfit s (Effect.opensStand x) ≡ true → not (storageFits (sections (sourceBook x .shape)) (lengthsOf (storage (s .state)))) ≡ true
+unfolding unfit openBook loadBook
+unfit-source s (Source.empty o size) u = u
+unfit-source s (Source.form f) u = both (hasHead (f .bytes)) _ u .1
+
 -- and a call that would write one of the four is refused
 pub unfit-refused : (s : Four) (e : Effect) → unfit s e ≡ true → result s e .accepted ≡ true → e ≡ Effect.leaves
-unfolding unfit result C.opened edited sheeted O.openCall
-unfit-refused s (Effect.opensStand p size) u a =
-    absurd (both-ways _ u (open-passed (p .cell) size (lengthsOf (storage (s .state))) (given-number _ (storage (s .state)) (openedShape (p .cell) size) a) .1))
+unfolding unfit result C.opened edited sheeted
+unfit-refused s (Effect.opensStand x) u a =
+    absurd (both-ways _ (unfit-source s x u) (source-passed x (lengthsOf (storage (s .state))) (given-number (storage (s .state)) x a) .1))
 unfit-refused s (Effect.edits (Edit.one c v)) u a = absurd (set-unfit (s .state) c v (not-true _ u) a)
 unfit-refused s (Effect.edits (Edit.box c d v)) u a = absurd (fill-unfit (s .state) c d v (not-true _ u) a)
 unfit-refused s (Effect.opensSheet x m) u a = absurd (both-ways _ u (open-fits s x m (s .state) (s .sheet) a))
@@ -109,12 +113,12 @@ module _ (s : Four) (b : Book) (k : Tells (s .state) b) (t : Terms) (o : Op) whe
   some-sections = sections-some (shapeOf (s .state .volume)) (ap H.opens (k .shape-is) ∙ k .opened)
 
   none-so : (e : Effect) → LentBy s (bare o) e × (AcceptedBy s (bare o) e → KeepsTo t e)
-  unfolding unfit given result C.opened O.openCall fitting
-  none-so (Effect.opensStand p size) = (
+  unfolding unfit given result C.opened fitting
+  none-so (Effect.opensStand x) = (
     tt,
     λ e.
-        let q = open-passed (p .cell) size nothing (given-number _ (storageOf [] [] [] [] []) (openedShape (p .cell) size) e) in
-        false≢true (sym (none-fit _ (sections-some (openedShape (p .cell) size) (q .0))) ∙ q .1),
+        let q = source-passed x nothing (given-number (storageOf [] [] [] [] []) x e) in
+        absurd (false≢true (sym (none-fit _ (sections-some (sourceBook x .shape) (q .0))) ∙ q .1)),
   )
   none-so (Effect.edits d) = (ap not (none-fit _ some-sections), λ e. tt)
   none-so (Effect.opensSheet x m) =

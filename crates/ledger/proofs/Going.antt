@@ -6,14 +6,13 @@ use mathlib.Core.Option.{Option}
 use Prim.Native.Nat.{ℕ, _*_, _≤_, _<_}
 use native.Mathlib.Omega.{arith}
 use lib.ListN.{length}
-use Rattle.stand.specs.Opening.{openedShape}
 use Rattle.stand.specs.Shape.{sections}
 use Rattle.stand.specs.declared.Cell.{Cell}
 use Rattle.mesh.specs.Cover.{Each}
 use Rattle.sheet.specs.Card.{Terms, limit, payable}
 use Rattle.sheet.specs.declared.Marks.{Marks}
-use Rattle.ledger.specs.Book.{openBook}
-use Rattle.ledger.specs.Breadth.{AllPay, Later, CanOpen, GoesOn, later, opening, sets}
+use Rattle.ledger.specs.Book.{sourceBook}
+use Rattle.ledger.specs.Breadth.{AllPay, Later, CanOpen, GoesOn, Pays, later, opening, sets}
 use Rattle.ledger.specs.Calls.{Call, Four, Op, accepted, book, feed, orElse, own, run, step, write}
 use Rattle.ledger.specs.Claim.{All, Keeps, Lent, Priced, Spared, Start, bookAfter, fourAfter}
 use Rattle.ledger.proofs.Claimed.{after-append, append-all, shows-later, tells-after, written-append}
@@ -23,7 +22,7 @@ use Rattle.ledger.proofs.Measured.{mark-count}
 use Rattle.ledger.proofs.Sheeted.{open-measures}
 use Rattle.ledger.proofs.Tells.{Tells}
 use Rattle.ledger.proofs.Following.{Beside, Still, later-all, own-lent, sets-all, sets-marks, sets-still}
-use Rattle.ledger.proofs.Finishes.{AllRated, book-rated, open-rated}
+use Rattle.ledger.proofs.Finishes.{AllRated, book-rated, source-rated}
 
 -- ---- a sheet opened on another list, calls that keep to its terms, and a refresh
 
@@ -131,8 +130,8 @@ module _ (a : Start) (xs : List Call) (t : Terms) (l : Option (List ℕ)) (m m�
   rated : AllRated (t .rates) (bookAfter a xs)
   unfolding bookAfter
   rated =
-      book-rated (t .rates) xs (step (a .four) (a .first)) (openBook (openedShape (a .origin .cell) (a .size))) (h .pays)
-      (open-rated (t .rates) (openedShape (a .origin .cell) (a .size)))
+      book-rated (t .rates) xs (step (a .four) (a .first)) (sourceBook (a .source)) (h .pays .1)
+      (source-rated (t .rates) (a .source) (subst (Pays (t .rates)) (a .opens) (h .pays .0)))
 
   paid : Paid t (bookAfter a xs .shape) (bookAfter a xs .look)
   paid c i = rated c

@@ -7,18 +7,16 @@ use borrow.Author.Tests.{not-true}
 use Prim.Native.Nat.{ℕ}
 use Rattle.stand.specs.Edit.{fitting, setCall}
 use Rattle.stand.specs.Fill.{fillCall}
-use Rattle.stand.specs.Opening as O
-use Rattle.stand.specs.Opening.{Opening, openRefusal, openedShape}
-use Rattle.stand.specs.Shape.{Ranged, Shape, sections}
-use Rattle.stand.specs.Storage.{Storage, freshState, freshStorage, joined, lengthsOf, storage, storageFits, volumeOf}
+use Rattle.stand.specs.Opening.{Opening}
+use Rattle.stand.specs.Shape.{Shape, sections}
+use Rattle.stand.specs.Storage.{Storage, joined, lengthsOf, storage, storageFits}
 use Rattle.stand.specs.declared.Cell.{Cell}
-use Rattle.stand.specs.declared.volume.Extent.{Extent}
-use Rattle.ledger.specs.Book.{Book, Edit, fitsBook, openBook, writeFill, writeOpen, writeSet}
+use Rattle.ledger.specs.Book.{Book, Edit, Source, fitsBook, writeFill, writeSet, writeSource}
 use Rattle.ledger.specs.Calls as C
-use Rattle.ledger.specs.Calls.{Call, Effect, Four, Op, call, edited, effectOf, given, headerAfter, isGiven, leftBy, orElse, ownAfter, result, sheeted, step, unfit, write}
+use Rattle.ledger.specs.Calls.{Call, Effect, Four, Op, call, edited, effectOf, given, headerAfter, isGiven, leftBy, orElse, ownAfter, result, sheeted, sourceCall, step, unfit, write}
 use Rattle.ledger.specs.Claim.{Lent, Uses}
 use Rattle.ledger.proofs.Lent.{fill-lent, set-lent, write-fill-lent, write-set-lent}
-use Rattle.ledger.proofs.Tells.{Tells, by-opening, open-passed, tells-fill, tells-fresh, tells-set}
+use Rattle.ledger.proofs.Tells.{Tells, by-opening, tells-fill, tells-set, tells-source}
 
 -- ---- a call with any effect in the place of its own: what it may be lent, whether it is accepted, the four after it
 
@@ -31,27 +29,17 @@ AcceptedBy s c e = result (given s c) e .accepted ≡ true
 abbrev pub stepBy : Four → Call → Effect → Four
 stepBy s c e = leftBy s c (result (given s c) e)
 
--- ---- opening a stand
+-- ---- opening or loading a stand
 
 module _ (s : Four) (b : Book) (k : Tells (s .state) b) where
   -- the state that an opening leaves
   abbrev Left : Option Storage → Opening → Book → Type 0
   Left st r b′ = Tells (joined (headerAfter (r .answer) (s .state .volume)) (ownAfter st (isGiven (r .answer)) (storage (s .state)) (r .storage))) b′
 
-  abbrev written : Option Storage → Cell → Extent → Book
-  written st o size = writeOpen b (lengthsOf (orElse st (storage (s .state)))) o size
-
-  fresh : (o : Cell) (size : Extent) (st : Storage) → Ranged o → openRefusal (openedShape o size) (lengthsOf st) ≡ 0
-      → Tells (joined (volumeOf (openedShape o size) 0 0) (freshStorage (sections (openedShape o size)))) (openBook (openedShape o size))
-  unfolding freshState openedShape
-  fresh o size st r e = tells-fresh (openedShape o size) (open-passed o size (lengthsOf st) e .0) r
-
-  opening-left : (st : Option Storage) (o : Cell) (size : Extent) → Ranged o
-      → Left st (O.openCall (orElse st (storage (s .state))) o size) (written st o size)
-  opening-left none o size r =
-      by-opening (Left none) (storage (s .state)) b o size (λ n. k) (λ e. fresh o size (storage (s .state)) r e)
-  opening-left (some st) o size r =
-      by-opening (Left (some st)) st b o size (λ n. k) (λ e. fresh o size st r e)
+  opening-left : (st : Option Storage) (x : Source)
+      → Left st (sourceCall (orElse st (storage (s .state))) x) (writeSource b (lengthsOf (orElse st (storage (s .state)))) x)
+  opening-left none x = by-opening (Left none) (storage (s .state)) b x (λ n. k) (tells-source x (lengthsOf (storage (s .state))))
+  opening-left (some st) x = by-opening (Left (some st)) st b x (λ n. k) (tells-source x (lengthsOf st))
 
   -- ---- set and fill, lent other storage
 
@@ -75,7 +63,7 @@ module _ (s : Four) (b : Book) (k : Tells (s .state) b) where
 
   tells-call : (st : Option Storage) (l : Option (List ℕ)) (o : Op) (e : Effect) → LentBy s (call st l o) e → After st l o e
   unfolding leftBy given result C.opened edited sheeted write unfit
-  tells-call st l o (Effect.opensStand p size) w = opening-left st (p .cell) size (p .ranged)
+  tells-call st l o (Effect.opensStand x) w = opening-left st x
   tells-call none l o (Effect.edits (Edit.one c v)) w = tells-set (s .state) b c v k
   tells-call none l o (Effect.edits (Edit.box c d v)) w = tells-fill (s .state) b c d v k
   tells-call (some st) l o (Effect.edits (Edit.one c v)) w = set-other st (not-true _ w) c v

@@ -5,18 +5,15 @@ use mathlib.Core.List.{List}
 use mathlib.Core.Option.{Option, none, some}
 use Prim.Native.Nat.{ℕ}
 use Rattle.stand.specs.Edit.{look}
-use Rattle.stand.specs.Opening as O
 use Rattle.stand.specs.Storage.{Lengths, State, Storage, lengthsOf, shape, storage}
-use Rattle.stand.specs.declared.Cell.{Cell}
-use Rattle.stand.specs.declared.volume.Extent.{Extent}
 use Rattle.stand.proofs.Tests.{refuted}
 use Rattle.sheet.specs.Calls as S
 use Rattle.sheet.specs.Calls.{Outcome, every}
 use Rattle.sheet.specs.Card.{Terms}
 use Rattle.sheet.specs.Due.{todo}
-use Rattle.ledger.specs.Book.{Book, Edit, writeFill, writeOpen, writeSet}
+use Rattle.ledger.specs.Book.{Book, Edit, Source, writeFill, writeSet, writeSource}
 use Rattle.ledger.specs.Calls as C
-use Rattle.ledger.specs.Calls.{Call, Effect, Four, Op, accepted, call, edited, effectOf, given, isDone, isGiven, leftBy, orElse, ownAfter, result, sheeted, step, write}
+use Rattle.ledger.specs.Calls.{Call, Effect, Four, Op, accepted, call, edited, effectOf, given, isDone, isGiven, leftBy, orElse, ownAfter, result, sheeted, sourceCall, step, write}
 use Rattle.ledger.specs.Claim.{Keeps, KeepsTo, Lent}
 use Rattle.ledger.proofs.Accepted.{by-measuring}
 use Rattle.ledger.proofs.Kept.{AcceptedBy, LentBy, stepBy}
@@ -29,6 +26,11 @@ use Rattle.ledger.proofs.Tells.{Tells, by-opening}
 -- what the four show of the book
 abbrev pub Showing : Terms → Four → Book → Type 0
 Showing t s b = Shows t (s .marks .sheet) (s .sheet) b
+
+-- neither opening of the stand keeps to the terms
+no-opening : (t : Terms) (x : Source) → KeepsTo t (Effect.opensStand x) → ⊥
+no-opening t (Source.empty o size) h = h
+no-opening t (Source.form f) h = h
 
 -- the sheet that is the four's after a call that opened none
 own-list : (P : List ℕ → Type 0) (l : Option (List ℕ)) (x : List ℕ) → P x → P (ownAfter l false x (orElse l x))
@@ -52,11 +54,11 @@ module _ (s : Four) (b : Book) (k : Tells (s .state) b) where
     abbrev Still : List ℕ → Book → Type 0
     Still x b′ = Shows t (s .marks .sheet) x b′
 
-    opening-shows : (st : Storage) (l : Option (List ℕ)) (o : Cell) (size : Extent) → (isGiven (O.openCall st o size .answer) ≡ true → ⊥)
-        → Still (ownAfter l false (s .sheet) (orElse l (s .sheet))) (writeOpen b (lengthsOf st) o size)
-    opening-shows st l o size n =
-        own-list (λ x. Still x (writeOpen b (lengthsOf st) o size)) l (s .sheet)
-        (by-opening (λ r b′. (isGiven (r .answer) ≡ true → ⊥) → Still (s .sheet) b′) st b o size (λ j n. h) (λ e n. absurd (n refl)) n)
+    opening-shows : (st : Storage) (l : Option (List ℕ)) (x : Source) → (isGiven (sourceCall st x .answer) ≡ true → ⊥)
+        → Still (ownAfter l false (s .sheet) (orElse l (s .sheet))) (writeSource b (lengthsOf st) x)
+    opening-shows st l x n =
+        own-list (λ y. Still y (writeSource b (lengthsOf st) x)) l (s .sheet)
+        (by-opening (λ r b′. (isGiven (r .answer) ≡ true → ⊥) → Still (s .sheet) b′) st b x (λ j n. h) (λ e n. absurd (n refl)) n)
 
     -- a measuring call refused
     abbrev IfRefused : Option (List ℕ) → Bool → Outcome → Type 0
@@ -95,7 +97,7 @@ module _ (s : Four) (b : Book) (k : Tells (s .state) b) where
     shows-call : (st : Option Storage) (l : Option (List ℕ)) (o : Op) (e : Effect) → LentBy s (call st l o) e
         → (AcceptedBy s (call st l o) e → KeepsTo t e) → After st l o e
     unfolding leftBy given result C.opened edited sheeted write accepted step Lent
-    shows-call st l o (Effect.opensStand p size) w n = opening-shows (orElse st (storage (s .state))) l (p .cell) size n
+    shows-call st l o (Effect.opensStand x) w n = opening-shows (orElse st (storage (s .state))) l x (λ a. no-opening t x (n a))
     shows-call st l o (Effect.edits (Edit.one c v)) w n =
         own-list (λ x. Still x (writeSet b (lens st) c v)) l (s .sheet) (shows-write-set b (lens st) c v h)
     shows-call st l o (Effect.edits (Edit.box c d v)) w n =

@@ -69,7 +69,7 @@ measure-4 t v look p fits ahead mask e = rules-4 (wellFormed v) fits ahead (ltb 
 
 unfit-so : (s : Four) (c : Call) (e : Effect) → AnswersFour (given s c) e → LentBy s c e
 unfolding unfit setCall fillCall S.openCall S.refreshCall
-unfit-so s c (Effect.opensStand o size) h = tt
+unfit-so s c (Effect.opensStand x) h = tt
 unfit-so s c (Effect.edits (Edit.one x v)) h =
     uses-so (Effect.edits (Edit.one x v)) (c .storage) (c .sheet) (ap not (set-4 _ _ _ _ _ _ _ (sym (edit-number _ _ _) ∙ ap numberOf h)))
 unfit-so s c (Effect.edits (Edit.box x y v)) h =

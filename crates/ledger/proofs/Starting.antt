@@ -1,9 +1,8 @@
 -- The starts of the claim's lists.
-use mathlib.Core.Path.{_≡_, refl, sym, ap, _∙_}
+use mathlib.Core.Path.{_≡_, refl, sym, ap, _∙_, subst}
 use mathlib.Core.Bool.{true, false≢true}
 use mathlib.Core.List.{List}
-use mathlib.Core.Option.{Option, none}
-use Prim.Native.Nat.{ℕ, zero, suc}
+use Prim.Native.Nat.{ℕ}
 use borrow.Author.Tests.{le-ltb}
 use lib.IntN.{pos}
 use Rattle.stand.specs.Opening as O
@@ -16,35 +15,37 @@ use Rattle.stand.specs.Storage.{Storage, freshStorage, lengthsOf, storage}
 use Rattle.stand.specs.declared.volume.Extent.{Extent}
 use Rattle.stand.proofs.Opening.{fresh-fits, size-high}
 use Rattle.stand.proofs.Shape.{goods}
+use Rattle.form.specs.Calls.{loadCall, loaded}
 use Rattle.sheet.specs.declared.Marks.{Marks}
-use Rattle.ledger.specs.Book.{openBook}
+use Rattle.ledger.specs.Book.{Origin, Source, openBook, sourceBook}
 use Rattle.ledger.specs.Breadth.{Reaches, Starts}
 use Rattle.ledger.specs.Calls as C
-use Rattle.ledger.specs.Calls.{Four, Op, Origin, accepted, book, call, feed, given, isGiven, orElse, own, result, run, step}
+use Rattle.ledger.specs.Calls.{Call, Effect, Four, Op, accepted, book, effectOf, feed, given, isGiven, own, result, run, sourceCall, step}
 use Rattle.ledger.specs.Claim.{bookAfter, fourAfter}
-use Rattle.ledger.specs.Trestles.{cell}
+use Rattle.ledger.proofs.Kept.{AcceptedBy}
+use Rattle.ledger.proofs.Tells.{by-opening, sourceRefusal}
 
 -- ---- on any four
 
-pub given-number : (n : ℕ) (st : Storage) (g : Shape) → isGiven (O.opened n st g .answer) ≡ true → n ≡ 0
-unfolding O.opened
-given-number zero st g e = refl
-given-number (suc n) st g e = absurd (false≢true e)
+-- an opening is accepted where nothing refuses it, and only then
+pub given-number : (st : Storage) (x : Source) → isGiven (sourceCall st x .answer) ≡ true → sourceRefusal x (lengthsOf st) ≡ 0
+given-number st x =
+    by-opening (λ r b. isGiven (r .answer) ≡ true → sourceRefusal x (lengthsOf st) ≡ 0) st (sourceBook x) x (λ k e. absurd (false≢true e)) (λ z e. z)
 
-number-given : (n : ℕ) (st : Storage) (g : Shape) → n ≡ 0 → isGiven (O.opened n st g .answer) ≡ true
-unfolding O.opened
-number-given n st g e = ap (λ (n : ℕ). isGiven (O.opened n st g .answer)) e
+number-given : (st : Storage) (x : Source) → sourceRefusal x (lengthsOf st) ≡ 0 → isGiven (sourceCall st x .answer) ≡ true
+unfolding O.openCall O.opened loadCall loaded
+number-given st (Source.empty o size) e = ap (λ (n : ℕ). isGiven (O.opened n st (openedShape (o .cell) size) .answer)) e
+number-given st (Source.form f) e = ap (λ (n : ℕ). isGiven (loaded n st (f .bytes) .answer)) e
 
-module _ (s : Four) (st : Option Storage) (l : Option (List ℕ)) (o : Origin) (size : Extent)
-    (e : openRefusal (openedShape (o .cell) size) (lengthsOf (orElse st (storage (s .state)))) ≡ 0) where
-  pub stand-accepted : accepted s (call st l (Op.openStand o size)) ≡ true
-  unfolding accepted given result C.opened O.openCall
-  stand-accepted = number-given _ (orElse st (storage (s .state))) (openedShape (o .cell) size) e
+module _ (s : Four) (c : Call) (x : Source) (p : effectOf (c .op) ≡ Effect.opensStand x) (e : sourceRefusal x (lengthsOf (storage (given s c .state))) ≡ 0) where
+  pub stand-accepted : accepted s c ≡ true
+  unfolding accepted result C.opened
+  stand-accepted = subst (AcceptedBy s c) (sym p) (number-given (storage (given s c .state)) x e)
 
-  pub starts : Starts s (call st l (Op.openStand o size))
+  pub starts : Starts s c
   starts =
       record {
-        start = record { four = s; first = call st l (Op.openStand o size); origin = o; size = size; opens = refl; is-accepted = stand-accepted };
+        start = record { four = s; first = c; source = x; opens = p; is-accepted = stand-accepted };
         four-is = refl;
         first-is = refl;
       }
@@ -88,10 +89,10 @@ module _ (g : Shape) (e : H.opens g ≡ true) where
     passes = ap (λ (h : Shape). openRefusal h (lengthsOf (freshStorage (sections g)))) same-shape ∙ fresh-passes
 
     pub reaches : Reaches g k l
-    unfolding fourAfter bookAfter run book feed T.freshState starts
+    unfolding fourAfter bookAfter run book feed T.freshState starts given
     reaches =
         record {
-          start = starts freshFour none none origin (T.extentOf (g .size)) passes .start;
+          start = starts freshFour (own (Op.openStand origin (T.extentOf (g .size)))) (Source.empty origin (T.extentOf (g .size))) refl passes .start;
           four-is = opened-four freshFour origin (T.extentOf (g .size)) passes ∙ ap (λ (h : Shape). record { state = T.freshState h; marks = k; sheet = l }) same-shape;
           book-is = ap openBook same-shape;
         }

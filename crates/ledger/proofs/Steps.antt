@@ -1,28 +1,28 @@
 -- The steps of the calls, by unfolding; a call refused, or that writes none of the four, leaves them.
-use Prim.Native.Nat.{ℕ, zero, suc}
+use Prim.Native.Nat.{ℕ}
 use mathlib.Core.Path.{_≡_, refl, sym, subst}
 use mathlib.Core.Bool.{true, false, true≢false}
 use mathlib.Core.List.{List}
 use mathlib.Core.Option.{Option, none, some}
 use Rattle.stand.specs.Edit.{fitting, look, setCall, setDef, setRefusal}
 use Rattle.stand.specs.Fill.{fillCall, fillDef, fillRefusal}
-use Rattle.stand.specs.Opening as O
-use Rattle.stand.specs.Opening.{openRefusal, openedShape}
-use Rattle.stand.specs.Shape.{Shape, wellFormed}
-use Rattle.stand.specs.Storage.{Outcome, State, Storage, joined, lengthsOf, shape, storage}
+use Rattle.stand.specs.Opening.{Opening}
+use Rattle.stand.specs.Shape.{wellFormed}
+use Rattle.stand.specs.Storage.{Outcome, State, Storage, joined, shape, storage}
 use Rattle.stand.proofs.Edit.{by-edited}
 use Rattle.stand.proofs.Tests.{by-test}
 use Rattle.sheet.specs.Calls as S
 use Rattle.sheet.specs.Calls.{every}
 use Rattle.sheet.specs.Card.{Terms}
 use Rattle.sheet.specs.Due.{todo}
-use Rattle.ledger.specs.Book.{Edit}
+use Rattle.ledger.specs.Book.{Edit, Source, sourceBook}
 use Rattle.ledger.specs.Calls as C
-use Rattle.ledger.specs.Calls.{Effect, Four, Op, accepted, call, editCall, edited, effectOf, given, leftBy, orElse, ownAfter, result, sheeted, step, unfit}
+use Rattle.ledger.specs.Calls.{Effect, Four, Op, accepted, call, editCall, edited, effectOf, given, leftBy, orElse, ownAfter, result, sheeted, sourceCall, step, unfit}
 use Rattle.ledger.specs.Steps.{Steps}
 use Rattle.ledger.proofs.Accepted.{by-measuring}
 use Rattle.ledger.proofs.Following.{unfit-refused}
 use Rattle.ledger.proofs.Kept.{stepBy}
+use Rattle.ledger.proofs.Tells.{by-opening}
 
 -- ---- the four kept, whatever a call was lent
 
@@ -49,10 +49,11 @@ module _ (s : Four) (st : Option Storage) (l : Option (List ℕ)) (o : Op) where
   abbrev Left : C.Result → Type 0
   Left r = r .accepted ≡ false → leftBy s (call st l o) r ≡ s
 
-  opening-left : (n : ℕ) (g : Shape) → Left (C.opened (given s (call st l o)) (O.opened n (orElse st (storage (s .state))) g))
-  unfolding C.opened O.opened leftBy given
-  opening-left zero g e = absurd (true≢false e)
-  opening-left (suc n) g e = stays s st l
+  opening-left : (x : Source) → Left (C.opened (given s (call st l o)) (sourceCall (orElse st (storage (s .state))) x))
+  unfolding C.opened leftBy given
+  opening-left x =
+      by-opening (λ (r : Opening) b. Left (C.opened (given s (call st l o)) r)) (orElse st (storage (s .state))) (sourceBook x) x (λ k e. stays s st l)
+      (λ z e. absurd (true≢false e))
 
   edit-left : (e : Edit) → Left (edited (given s (call st l o)) (editCall lent e))
   unfolding edited setCall fillCall leftBy given
@@ -82,9 +83,8 @@ module _ (s : Four) (st : Option Storage) (l : Option (List ℕ)) (o : Op) where
       (λ j e. stays s st l) (λ e. absurd (true≢false e))
 
   refused-left : (e : Effect) → Left (result (given s (call st l o)) e)
-  unfolding given result leftBy O.openCall
-  refused-left (Effect.opensStand p size) e =
-      opening-left (openRefusal (openedShape (p .cell) size) (lengthsOf (orElse st (storage (s .state))))) (openedShape (p .cell) size) e
+  unfolding given result leftBy
+  refused-left (Effect.opensStand x) e = opening-left x e
   refused-left (Effect.edits d) e = edit-left d e
   refused-left (Effect.opensSheet t m) e = open-sheet-left t m e
   refused-left (Effect.refreshes t m) e = refresh-left t m e
@@ -107,6 +107,7 @@ unfolding step accepted given result leftBy C.opened edited sheeted
 steps s =
     record {
       open-stand = λ o size. record { is-accepted = refl; four = refl };
+      load-stand = λ f. record { is-accepted = refl; four = refl };
       set = λ c v. record { is-accepted = refl; four = refl };
       set-lent = λ c v. record { is-accepted = refl; four = refl };
       fill = λ c d v. record { is-accepted = refl; four = refl };

@@ -1,4 +1,4 @@
--- What the book and a state have in common after every call, and that opening, set and fill keep it.
+-- What the book and a state have in common after every call, and that opening, loading, set and fill keep it.
 use mathlib.Core.Path.{_≡_, refl, sym, ap, _∙_, subst}
 use mathlib.Core.Bool.{Bool, true, false, cond, false≢true}
 use mathlib.Core.List.{List, [], _∷_, List·Memᴰ, List·Memᴰ·head, List·Memᴰ·tail}
@@ -12,17 +12,24 @@ use Rattle.stand.specs.Fill.{andThen, boxCells, boxOf, fillCall, fillDef, fillR
 use Rattle.stand.specs.Opening.{Opening, openCall, openRefusal, opened, openedShape, openingOf}
 use Rattle.stand.specs.Refusal.{_⇒_, first, gives, refused}
 use Rattle.stand.specs.Shape.{Ranged, Shape, chunkOf, inside, opens, sections, shapeOf, slot, wellFormed}
-use Rattle.stand.specs.Storage.{Lengths, Outcome, State, Storage, freshState, freshStorage, lengthsOf, outcomeOf, shape, storage, storageFits, volumeOf}
+use Rattle.stand.specs.Storage.{Lengths, Outcome, State, Storage, freshState, freshStorage, joined, lengthsOf, outcomeOf, shape, storage, storageFits, volumeOf}
 use Rattle.stand.specs.declared.Cell.{Cell}
 use Rattle.stand.specs.declared.volume.Extent.{Extent}
+use Rattle.stand.specs.declared.volume.Volume.{Volume}
 use Rattle.stand.proofs.Edit.{by-put, changed-fitting, changed-formed, fitting-lengths, settable}
 use Rattle.stand.proofs.Parts.{box-inside}
 use Rattle.stand.proofs.Kept.{fresh-sound, zeros}
-use Rattle.stand.proofs.Opening.{opened-opens}
+use Rattle.stand.proofs.Opening.{opened-opens, volume-formed}
 use Rattle.stand.proofs.Refusal.{passes}
 use Rattle.stand.proofs.Shape.{chunk-lt, slot-chunk, slot-inj, slot-lt}
 use Rattle.stand.proofs.Tests.{by-test}
-use Rattle.ledger.specs.Book.{Book, fitsBook, noteBook, openBook, sameCell, setAll, setBook, unless, writeFill, writeOpen, writeSet}
+use Rattle.form.specs.Calls.{loadCall, loadRefusal, loaded}
+use Rattle.form.specs.Entries.{Entry, loadedStorage}
+use Rattle.form.specs.Form.{countIn, entriesIn, headShape}
+use Rattle.form.proofs.Loads.{loads, loads-opens, loads-own, loads-ranged}
+use Rattle.form.proofs.Loaded.{loaded-sound, placed-own, sound-fits}
+use Rattle.ledger.specs.Book.{Book, Form, Source, fitsBook, loadBook, noteBook, openBook, sameCell, setAll, setBook, sourceBook, unless, writeFill, writeLoad, writeOpen, writeSet, writeSource}
+use Rattle.ledger.specs.Calls.{sourceCall}
 use Rattle.ledger.proofs.Books.{book-other, book-same, set-shape-kept}
 use Rattle.ledger.proofs.Notes.{Notes, notes-more, notes-none}
 use Rattle.ledger.proofs.Same.{cells-same, same-cells}
@@ -108,15 +115,12 @@ module _ (s : State) (b : Book) (t : Tells s b) (c : Cell) (v : ℕ) (at : insid
       (λ e. rw (book-same b c v (sym (t .cells-are c at) ∙ e)) t)
       (λ h. rw (book-other b c v (λ e. h (t .cells-are c at ∙ e))) tells-change)
 
--- ---- a call that edits, beside the book, which is refused alike
+-- ---- a call under its refusal's number, beside the book, which is refused alike
 
-by-both : (P : Outcome ℕ → Book → Type 0) (n : ℕ) (s : State) (e : Edited) (b d : Book)
-    → ((k : ℕ) → P (outcomeOf (refused (suc k)) s) b)
-    → (n ≡ 0 → P (outcomeOf (gives (e .count)) (e .state)) d)
-    → P (edited n s e) (unless n b d)
-unfolding edited unless
-by-both P zero s e b d n y = y refl
-by-both P (suc k) s e b d n y = n k
+by-both : {A : Type 0} (P : A → Book → Type 0) (n : ℕ) (call : ℕ → A) (b d : Book) → ((k : ℕ) → P (call (suc k)) b) → (n ≡ 0 → P (call zero) d) → P (call n) (unless n b d)
+unfolding unless
+by-both P zero call b d n y = y refl
+by-both P (suc k) call b d n y = n k
 
 module _ (s : State) (b : Book) (t : Tells s b) where
   formed-alike : wellFormed (s .volume) ≡ opens (b .shape)
@@ -149,10 +153,10 @@ module _ (s : State) (b : Book) (t : Tells s b) where
         → ((k : ℕ) → P (outcomeOf (refused (suc k)) s) b)
         → (inside (b .shape) c ≡ true → P (outcomeOf (gives (setDef s c v .count)) (setDef s c v .state)) (setBook b c v))
         → P (setCall s c v) (writeSet b (lengthsOf (storage s)) c v)
-    unfolding setCall writeSet
+    unfolding setCall writeSet edited
     by-set P n y =
         subst (λ (m : ℕ). P (edited setTurns s (setDef s c v)) (unless m b (setBook b c v))) set-alike
-        (by-both P setTurns s (setDef s c v) b (setBook b c v) n
+        (by-both P setTurns (λ m. edited m s (setDef s c v)) b (setBook b c v) n
         (λ e. y (ap (λ (g : Shape). inside g c) (sym (t .shape-is)) ∙ settable _ _ _ _ _ _ _ e .inside-is)))
 
 pub tells-set : (s : State) (b : Book) (c : Cell) (v : ℕ) → Tells s b → Tells (setCall s c v .state) (writeSet b (lengthsOf (storage s)) c v)
@@ -186,10 +190,10 @@ module _ (s : State) (b : Book) (t : Tells s b) (c d : Cell) (v : ℕ) where
       → ((k : ℕ) → P (outcomeOf (refused (suc k)) s) b)
       → P (outcomeOf (gives (fillDef s c d v .count)) (fillDef s c d v .state)) (setAll b (boxCells (b .shape) (boxOf (b .shape) c d)) v)
       → P (fillCall s c d v) (writeFill b (lengthsOf (storage s)) c d v)
-  unfolding fillCall writeFill
+  unfolding fillCall writeFill edited
   by-fill P n y =
       subst (λ (m : ℕ). P (edited fillTurns s (fillDef s c d v)) (unless m b (setAll b box v))) fill-alike
-      (by-both P fillTurns s (fillDef s c d v) b (setAll b box v) n (λ e. y))
+      (by-both P fillTurns (λ m. edited m s (fillDef s c d v)) b (setAll b box v) n (λ e. y))
 
 pub tells-fill : (s : State) (b : Book) (c d : Cell) (v : ℕ) → Tells s b → Tells (fillCall s c d v .state) (writeFill b (lengthsOf (storage s)) c d v)
 tells-fill s b c d v t = by-fill s b t c d v (λ (o : Outcome ℕ) (e : Book). Tells (o .state) e) (λ k. t) (tells-box s b t c d v)
@@ -209,14 +213,63 @@ open-passed o size l e =
     let r = passes _ _ _ (q .1) in
     (opened-opens o size (rules-pass _ _ (p .0) (q .0)), not-false _ (r .0))
 
+-- ---- loading, on any storage
+
+module _ (f : Form) where
+  abbrev entries : List Entry
+  entries = entriesIn (f .bytes)
+
+  tells-loaded : (l : Lengths) → loadRefusal (f .bytes) l ≡ 0
+      → Tells (joined (volumeOf (headShape (f .bytes)) 0 (countIn (f .bytes))) (loadedStorage (headShape (f .bytes)) entries)) (loadBook (f .bytes))
+  unfolding loadBook look shapeOf volumeOf loadedStorage
+  tells-loaded l e =
+      let g = headShape (f .bytes) in
+      let h = loads (f .bytes) l e in
+      let o = loads-opens (f .bytes) l (f .typed) h in
+      let w = loads-own (f .bytes) l (f .typed) h in
+      record {
+        formed = volume-formed g 0 (countIn (f .bytes)) o;
+        fits = sound-fits g entries (countIn (f .bytes)) (loaded-sound g entries o (w .0) (w .1));
+        shape-is = refl;
+        opened = o;
+        ranged = loads-ranged (f .bytes) l (f .typed) h;
+        count-is = refl;
+        cells-are = λ c i. placed-own g entries (w .0) (w .1) (slot g c);
+        notes = notes-none (sections g) (λ j. 0);
+      }
+
+-- ---- either opening of a stand, on any storage
+
+-- the refusal's number, 0 for none; the header that it gives, and the storage that it leaves
+abbrev pub sourceRefusal : Source → Lengths → ℕ
+sourceRefusal (Source.empty o size) l = openRefusal (openedShape (o .cell) size) l
+sourceRefusal (Source.form f) l = loadRefusal (f .bytes) l
+
+abbrev sourceHeader : Source → Volume
+sourceHeader (Source.empty o size) = volumeOf (openedShape (o .cell) size) 0 0
+sourceHeader (Source.form f) = volumeOf (headShape (f .bytes)) 0 (countIn (f .bytes))
+
+abbrev sourceStorage : Source → Storage
+sourceStorage (Source.empty o size) = freshStorage (sections (openedShape (o .cell) size))
+sourceStorage (Source.form f) = loadedStorage (headShape (f .bytes)) (entriesIn (f .bytes))
+
+-- one that nothing refuses: its lists fit, and what it leaves tells its book
+pub source-passed : (x : Source) (l : Lengths) → sourceRefusal x l ≡ 0 → (opens (sourceBook x .shape) ≡ true) × (storageFits (sections (sourceBook x .shape)) l ≡ true)
+unfolding openBook loadBook
+source-passed (Source.empty o size) l e = open-passed (o .cell) size l e
+source-passed (Source.form f) l e = let h = loads (f .bytes) l e in (loads-opens (f .bytes) l (f .typed) h, h .fits)
+
+pub tells-source : (x : Source) (l : Lengths) → sourceRefusal x l ≡ 0 → Tells (joined (sourceHeader x) (sourceStorage x)) (sourceBook x)
+unfolding freshState openedShape
+tells-source (Source.empty o size) l e = tells-fresh (openedShape (o .cell) size) (open-passed (o .cell) size l e .0) (o .ranged)
+tells-source (Source.form f) l e = tells-loaded f l e
+
 -- refused, storage and book stay; else both are made anew
-pub by-opening : (P : Opening → Book → Type 0) (st : Storage) (b : Book) (o : Cell) (size : Extent)
+pub by-opening : (P : Opening → Book → Type 0) (st : Storage) (b : Book) (x : Source)
     → ((k : ℕ) → P (openingOf (refused (suc k)) st) b)
-    → (openRefusal (openedShape o size) (lengthsOf st) ≡ 0 → P (openingOf (gives (volumeOf (openedShape o size) 0 0)) (freshStorage (sections (openedShape o size)))) (openBook (openedShape o size)))
-    → P (openCall st o size) (writeOpen b (lengthsOf st) o size)
-unfolding openCall opened writeOpen unless
-by-opening P st b o size n y = go (openRefusal (openedShape o size) (lengthsOf st)) refl
-  where
-    go : (m : ℕ) → openRefusal (openedShape o size) (lengthsOf st) ≡ m → P (opened m st (openedShape o size)) (unless m b (openBook (openedShape o size)))
-    go zero e = y e
-    go (suc k) e = n k
+    → (sourceRefusal x (lengthsOf st) ≡ 0 → P (openingOf (gives (sourceHeader x)) (sourceStorage x)) (sourceBook x))
+    → P (sourceCall st x) (writeSource b (lengthsOf st) x)
+unfolding openCall opened writeOpen loadCall loaded writeLoad
+by-opening P st b (Source.empty o size) n y =
+    let g = openedShape (o .cell) size in by-both P (openRefusal g (lengthsOf st)) (λ m. opened m st g) b (openBook g) n y
+by-opening P st b (Source.form f) n y = by-both P (loadRefusal (f .bytes) (lengthsOf st)) (λ m. loaded m st (f .bytes)) b (loadBook (f .bytes)) n y

@@ -1,4 +1,4 @@
--- The book: document 01, 'The book behind the sums'.
+-- The book: document 01, 'The book behind the sums', and document 02, 2.2.
 use Prim.Native.Nat.{ℕ, zero, suc, _+_, _<_, _≤_}
 use mathlib.Core.Path.{_≡_}
 use mathlib.Core.Bool.{Bool, cond, _&&_}
@@ -9,10 +9,14 @@ use lib.Signed.{leZ}
 use Rattle.stand.specs.Edit.{setRefusal}
 use Rattle.stand.specs.Fill.{boxCells, boxOf, fillRefusal}
 use Rattle.stand.specs.Opening.{openRefusal, openedShape}
-use Rattle.stand.specs.Shape.{Shape, chunkOf, opens, sections}
+use Rattle.stand.specs.Shape.{Ranged, Shape, chunkOf, opens, sections, slot}
 use Rattle.stand.specs.Storage.{Lengths, storageFits}
 use Rattle.stand.specs.declared.Cell.{Cell}
 use Rattle.stand.specs.declared.volume.Extent.{Extent}
+use Rattle.arith.specs.Bytes.{Bytes}
+use Rattle.form.specs.Calls.{loadRefusal}
+use Rattle.form.specs.Entries.{lookup}
+use Rattle.form.specs.Form.{entriesIn, headShape}
 
 -- origin and size, a finish for each cell, a count, and under each number from 1 to the count one section
 pub record Book : Type 0 where
@@ -24,6 +28,10 @@ pub record Book : Type 0 where
 -- opening: all cells empty, nothing noted
 unfoldable pub openBook : Shape → Book
 openBook g = record { shape = g; look = λ c. 0; count = 0; noted = λ j. 0 }
+
+-- loading (document 02, 2.2): the form's origin, size and cells, count 0, nothing noted
+unfoldable pub loadBook : List ℕ → Book
+loadBook f = record { shape = headShape f; look = λ c. lookup (entriesIn f) (slot (headShape f) c); count = 0; noted = λ j. 0 }
 
 abbrev sameZ : ℤ → ℤ → Bool
 sameZ a b = leZ a b && leZ b a
@@ -58,6 +66,33 @@ unless (suc n) b c = b
 
 unfoldable pub writeOpen : Book → Lengths → Cell → Extent → Book
 writeOpen b l o size = unless (openRefusal (openedShape o size) l) b (openBook (openedShape o size))
+
+unfoldable pub writeLoad : Book → Lengths → List ℕ → Book
+writeLoad b l f = unless (loadRefusal f l) b (loadBook f)
+
+-- where a stand is opened: coordinates are i32, as the call's type has it
+pub record Origin : Type 0 where
+  pub cell : Cell
+  pub ranged : Ranged cell
+
+-- what is loaded: any bytes, as the call's type has it
+pub record Form : Type 0 where
+  pub bytes : List ℕ
+  pub typed : Bytes bytes
+
+-- the openings of the stand: all cells empty, or those of a form that is loaded
+pub data Source : Type 0 where
+  empty : Origin → Extent → Source
+  form : Form → Source
+
+-- the book of a stand just opened
+abbrev pub sourceBook : Source → Book
+sourceBook (Source.empty o size) = openBook (openedShape (o .cell) size)
+sourceBook (Source.form f) = loadBook (f .bytes)
+
+abbrev pub writeSource : Book → Lengths → Source → Book
+writeSource b l (Source.empty o size) = writeOpen b l (o .cell) size
+writeSource b l (Source.form f) = writeLoad b l (f .bytes)
 
 unfoldable pub fitsBook : Book → Lengths → Bool
 fitsBook b l = storageFits (sections (b .shape)) l

@@ -1,4 +1,5 @@
--- How wide the claim is: demand 3 speaks of every list of calls, and document 01, 'The book behind the sums', says which calls stand in one.
+-- How wide the claim is: demand 3 speaks of every list of calls, and document 01, 'The book behind the sums', says which calls stand in one;
+-- a load is one by document 02, 2.2.
 -- The premises of the claim ask no more than that, and lists that meet them exist, whatever the four hold.
 use Prim.Native.Nat.{ℕ, _-_, _*_, _≤_, _<_}
 use mathlib.Core.Path.{_≡_}
@@ -6,20 +7,21 @@ use mathlib.Core.Bool.{true, false}
 use mathlib.Core.List.{List, [], _∷_, _++_, map}
 use mathlib.Core.Option.{Option, none, some}
 use lib.ListN.{length}
-use Rattle.stand.specs.Opening as O
 use Rattle.stand.specs.Opening.{openRefusal, openedShape}
 use Rattle.stand.specs.Refusal as R
 use Rattle.stand.specs.Shape.{Ranged, Shape, chunkOf, counted, opens, sections}
 use Rattle.stand.specs.Storage.{Storage, freshState, lengthsOf, storage, storageOf}
 use Rattle.stand.specs.declared.Cell.{Cell}
 use Rattle.stand.specs.declared.volume.Extent.{Extent}
+use Rattle.form.specs.Calls.{loadRefusal}
+use Rattle.form.specs.Form.{entriesIn, headShape}
 use Rattle.mesh.specs.Cover.{Each}
 use Rattle.mesh.specs.Near.{near}
 use Rattle.sheet.specs.Calls as S
 use Rattle.sheet.specs.Card.{Terms, limit, payable}
 use Rattle.sheet.specs.declared.Marks.{Marks}
-use Rattle.ledger.specs.Book.{Book, Changed, Edit, openBook}
-use Rattle.ledger.specs.Calls.{Call, Effect, Four, Op, Origin, accepted, book, call, editCall, effectOf, feed, given, orElse, own, unfit}
+use Rattle.ledger.specs.Book.{Book, Changed, Edit, Form, Origin, Source, openBook}
+use Rattle.ledger.specs.Calls.{Call, Effect, Four, Op, accepted, book, call, editCall, effectOf, feed, given, orElse, own, sourceCall, unfit}
 use Rattle.ledger.specs.Claim.{All, Keeps, Lent, Priced, Spared, Start, bookAfter, fourAfter}
 use Rattle.ledger.specs.Reading.{Reading}
 
@@ -65,9 +67,10 @@ sets cs v = map (λ c. own (Op.set c v)) cs
 
 -- ---- cards
 
--- the finish that a call brings has a rate within its limit
+-- the finishes that a call brings have rates within their limit
 abbrev pub Pays : List ℕ → Effect → Type 0
-Pays rates (Effect.opensStand o size) = Unit {0}
+Pays rates (Effect.opensStand (Source.empty o size)) = Unit {0}
+Pays rates (Effect.opensStand (Source.form f)) = Each (λ e. payable rates (e .finish) ≡ true) (entriesIn (f .bytes))
 Pays rates (Effect.edits (Edit.one c v)) = payable rates v ≡ true
 Pays rates (Effect.edits (Edit.box c d v)) = payable rates v ≡ true
 Pays rates (Effect.opensSheet t m) = Unit {0}
@@ -89,10 +92,11 @@ pub record Priceable (xs : List Call) (ys : List Later) : Type 0 where
 abbrev pub opening : Terms → Option (List ℕ) → List ℕ → Call
 opening t l m = call none l (Op.openSheet t m)
 
--- by a card that prices the list xs, under either outside rule, on a sheet with any contents; m and m′ are the masks of opening and refresh
+-- by a card that prices the first call and the list xs, under either outside rule, on a sheet with any contents; m and m′ are the masks of
+-- opening and refresh
 pub record CanOpen (a : Start) (xs : List Call) (t : Terms) (l : Option (List ℕ)) (m m′ : List ℕ) : Type 0 where
   pub lent : All Lent (fourAfter a []) xs
-  pub pays : AllPay (t .rates) xs
+  pub pays : AllPay (t .rates) (a .first ∷ xs)
   pub cut : t .cut ≤ limit
   pub length-is : length (orElse l (fourAfter a xs .sheet)) ≡ sections (bookAfter a xs .shape) * 3
   pub mask : 256 ≤ length m
@@ -124,7 +128,7 @@ pub record Grows : Type 0 where
 
 -- the call answers 4, by the definition that its contract cites
 abbrev pub AnswersFour : Four → Effect → Type 0
-AnswersFour s (Effect.opensStand o size) = O.openCall (storage (s .state)) (o .cell) size .answer ≡ R.refused 4
+AnswersFour s (Effect.opensStand x) = sourceCall (storage (s .state)) x .answer ≡ R.refused 4
 AnswersFour s (Effect.edits e) = editCall (s .state) e .answer ≡ R.refused 4
 AnswersFour s (Effect.opensSheet t m) = S.openCall t (s .state .volume) (s .state .cells) (s .marks) m (s .sheet) .verdict ≡ S.refused 4
 AnswersFour s (Effect.refreshes t m) = S.refreshCall t (s .state .volume) (s .state .cells) (s .state .log) (s .state .last) (s .marks) m (s .sheet) .verdict ≡ S.refused 4
@@ -133,9 +137,11 @@ AnswersFour s Effect.leaves = Unit {0}
 pub record Breadth : Type 0 where
   -- ---- on any four
 
-  -- every opening that nothing refuses starts a list
+  -- every opening that nothing refuses starts a list, and every load
   pub starts : (s : Four) (st : Option Storage) (l : Option (List ℕ)) (o : Origin) (size : Extent)
       → openRefusal (openedShape (o .cell) size) (lengthsOf (orElse st (storage (s .state)))) ≡ 0 → Starts s (call st l (Op.openStand o size))
+  pub starts-loaded : (s : Four) (st : Option Storage) (l : Option (List ℕ)) (f : Form)
+      → loadRefusal (f .bytes) (lengthsOf (orElse st (storage (s .state)))) ≡ 0 → Starts s (call st l (Op.loadStand f))
   -- so document 01's start is one: a stand just opened, sheet and marks holding anything
   pub fresh : (g : Shape) (k : Marks) (l : List ℕ) → opens g ≡ true → Ranged (g .origin) → Reaches g k l
   -- the book of a list is that of all its calls, the first among them, whatever book came before
@@ -146,8 +152,8 @@ pub record Breadth : Type 0 where
   pub refused-by-4 : (s : Four) (c : Call) → unfit (given s c) (effectOf (c .op)) ≡ true → Lent s c × ((t : Terms) → Keeps t s c)
   -- where a call answers 4, by the definition that its contract cites, it may be lent what it was
   pub answers-4 : (s : Four) (c : Call) → AnswersFour (given s c) (effectOf (c .op)) → Lent s c
-  -- stand and sheet may be opened on any lists, and an edit may be lent any sheet
-  pub stand-anew : (s : Four) (c : Call) (o : Origin) (size : Extent) → effectOf (c .op) ≡ Effect.opensStand o size → Lent s c
+  -- stand and sheet may be opened on any lists, a load is lent any, and an edit may be lent any sheet
+  pub stand-anew : (s : Four) (c : Call) (x : Source) → effectOf (c .op) ≡ Effect.opensStand x → Lent s c
   pub edits-own : (s : Four) (c : Call) (e : Edit) → effectOf (c .op) ≡ Effect.edits e → c .storage ≡ none → Lent s c
   pub sheet-anew : (s : Four) (l : Option (List ℕ)) (t : Terms) (m : List ℕ) → Lent s (opening t l m)
   -- a call that writes none of the four may be lent any lists
@@ -184,4 +190,9 @@ pub record Breadth : Type 0 where
       → openRefusal (openedShape (o .cell) size) (lengthsOf st) ≡ 0 → length l ≡ sections (openedShape (o .cell) size) * 3
       → 256 ≤ length m → 256 ≤ length m′ → t .cut ≤ limit
       → Priced a (xs ++ (call (some st) none (Op.openStand o size) ∷ [])) (opening t (some l) m) [] (own (Op.refresh t m′)) t
+  -- and loaded there, by any card that prices the form
+  pub loaded-anew : (a : Start) (xs : List Call) → All Lent (fourAfter a []) xs → (f : Form) (st : Storage) (l m m′ : List ℕ) (t : Terms)
+      → loadRefusal (f .bytes) (lengthsOf st) ≡ 0 → length l ≡ sections (headShape (f .bytes)) * 3 → Pays (t .rates) (effectOf (Op.loadStand f))
+      → 256 ≤ length m → 256 ≤ length m′ → t .cut ≤ limit
+      → Priced a (xs ++ (call (some st) none (Op.loadStand f) ∷ [])) (opening t (some l) m) [] (own (Op.refresh t m′)) t
   pub grows : Grows

@@ -1,4 +1,4 @@
--- Lists of calls: document 01, 'The book behind the sums', and demand 3.
+-- Lists of calls: document 01, 'The book behind the sums', demand 3, and document 02, 2.2.
 use Prim.Native.Nat.{ℕ}
 use mathlib.Core.Bool.{Bool, true, false, not, _&&_}
 use mathlib.Core.List.{List, [], _∷_}
@@ -9,17 +9,19 @@ use Rattle.stand.specs.Fill.{fillCall}
 use Rattle.stand.specs.Opening as O
 use Rattle.stand.specs.Opening.{Opening, openedShape}
 use Rattle.stand.specs.Refusal.{Answer, gives, refused}
-use Rattle.stand.specs.Shape.{Ranged, sections, shapeOf}
+use Rattle.stand.specs.Shape.{sections, shapeOf}
 use Rattle.stand.specs.Storage.{Lengths, State, Storage, joined, lengthsOf, storage, storageFits}
 use Rattle.stand.specs.Storage as St
 use Rattle.stand.specs.declared.Cell.{Cell}
 use Rattle.stand.specs.declared.volume.Extent.{Extent}
 use Rattle.stand.specs.declared.volume.Volume.{Volume}
+use Rattle.form.specs.Calls.{loadCall}
+use Rattle.form.specs.Form.{hasHead, headShape}
 use Rattle.sheet.specs.Calls as S
 use Rattle.sheet.specs.Calls.{Verdict, done, openFits, refreshFits}
 use Rattle.sheet.specs.Card.{Terms}
 use Rattle.sheet.specs.declared.Marks.{Marks}
-use Rattle.ledger.specs.Book.{Book, Edit, writeEdit, writeOpen}
+use Rattle.ledger.specs.Book.{Book, Edit, Form, Origin, Source, writeEdit, writeSource}
 use Rattle.ledger.specs.Reading.{Reading}
 
 -- header and storage, marks and sheet
@@ -28,14 +30,10 @@ pub record Four : Type 0 where
   pub marks : Marks
   pub sheet : List ℕ
 
--- where a stand is opened: coordinates are i32, as the call's type has it
-pub record Origin : Type 0 where
-  pub cell : Cell
-  pub ranged : Ranged cell
-
 -- the calls and their arguments; the lists of a measuring call are its rates and its mask, with any contents
 pub data Op : Type 0 where
   openStand : Origin → Extent → Op
+  loadStand : Form → Op
   set : Cell → ℕ → Op
   setLent : Cell → ℕ → Op
   fill : Cell → Cell → ℕ → Op
@@ -46,7 +44,7 @@ pub data Op : Type 0 where
 
 -- what an accepted call does to the four
 pub data Effect : Type 0 where
-  opensStand : Origin → Extent → Effect
+  opensStand : Source → Effect
   edits : Edit → Effect
   opensSheet : Terms → List ℕ → Effect
   refreshes : Terms → List ℕ → Effect
@@ -54,7 +52,8 @@ pub data Effect : Type 0 where
 
 -- the one table of calls: a new call is a line of Op and a line here
 abbrev pub effectOf : Op → Effect
-effectOf (Op.openStand o size) = Effect.opensStand o size
+effectOf (Op.openStand o size) = Effect.opensStand (Source.empty o size)
+effectOf (Op.loadStand f) = Effect.opensStand (Source.form f)
 effectOf (Op.set c v) = Effect.edits (Edit.one c v)
 effectOf (Op.setLent c v) = Effect.edits (Edit.one c v)
 effectOf (Op.fill c d v) = Effect.edits (Edit.box c d v)
@@ -113,22 +112,29 @@ sheeted s opens r =
       newSheet = opens && isDone (r .verdict);
     }
 
+abbrev pub sourceCall : Storage → Source → Opening
+sourceCall st (Source.empty o size) = O.openCall st (o .cell) size
+sourceCall st (Source.form f) = loadCall st (f .bytes)
+
 abbrev pub editCall : State → Edit → St.Outcome ℕ
 editCall s (Edit.one c v) = setCall s c v
 editCall s (Edit.box c d v) = fillCall s c d v
 
 -- a call that writes none of the four counts as accepted here: what it answers is its contract's
 unfoldable pub result : Four → Effect → Result
-result s (Effect.opensStand o size) = opened s (O.openCall (storage (s .state)) (o .cell) size)
+result s (Effect.opensStand x) = opened s (sourceCall (storage (s .state)) x)
 result s (Effect.edits e) = edited s (editCall (s .state) e)
 result s (Effect.opensSheet t m) = sheeted s true (S.openCall t (s .state .volume) (s .state .cells) (s .marks) m (s .sheet))
 result s (Effect.refreshes t m) =
     sheeted s false (S.refreshCall t (s .state .volume) (s .state .cells) (s .state .log) (s .state .last) (s .marks) m (s .sheet))
 result s Effect.leaves = record { accepted = true; four = s; newStorage = false; newSheet = false }
 
--- the lists that a call is given are of a length that 4 refuses; one that writes none of the four may be given any
+-- the lists that a call is given are of a length that 4 refuses, which a load asks of the size in its head; one that writes none of the
+-- four may be given any
 unfoldable pub unfit : Four → Effect → Bool
-unfit s (Effect.opensStand o size) = not (storageFits (sections (openedShape (o .cell) size)) (lengthsOf (storage (s .state))))
+unfit s (Effect.opensStand (Source.empty o size)) = not (storageFits (sections (openedShape (o .cell) size)) (lengthsOf (storage (s .state))))
+unfit s (Effect.opensStand (Source.form f)) =
+    hasHead (f .bytes) && not (storageFits (sections (headShape (f .bytes))) (lengthsOf (storage (s .state))))
 unfit s (Effect.edits e) = not (fitting (s .state))
 unfit s (Effect.opensSheet t m) = not (openFits (sections (shapeOf (s .state .volume))) (length (s .state .cells)) (length (s .sheet)))
 unfit s (Effect.refreshes t m) =
@@ -185,7 +191,7 @@ accepted s c = result (given s c) (effectOf (c .op)) .accepted
 -- ---- the book of a list of calls: fed arguments, and of what was lent only the lengths
 
 unfoldable pub write : Book → Lengths → Effect → Book
-write b l (Effect.opensStand o size) = writeOpen b l (o .cell) size
+write b l (Effect.opensStand x) = writeSource b l x
 write b l (Effect.edits e) = writeEdit b l e
 write b l (Effect.opensSheet t m) = b
 write b l (Effect.refreshes t m) = b

@@ -1,17 +1,15 @@
--- The claim about every list of calls: demand 3.
+-- The claim about every list of calls: demand 3, with document 02, 2.2.
 use Prim.Native.Nat.{ℕ, _-_, _≤_, _<_}
 use mathlib.Core.Path.{_≡_}
 use mathlib.Core.Bool.{true}
 use mathlib.Core.List.{List, [], _∷_, _++_}
 use mathlib.Core.Option.{Option, none, some}
-use Rattle.stand.specs.Opening.{openedShape}
 use Rattle.stand.specs.Refusal.{gives}
 use Rattle.stand.specs.Shape.{counted, inside, sections}
 use Rattle.stand.specs.Sides.{sideNumber}
 use Rattle.stand.specs.Storage.{Storage}
 use Rattle.stand.specs.declared.Cell.{Cell}
 use Rattle.stand.specs.declared.Face.{Face}
-use Rattle.stand.specs.declared.volume.Extent.{Extent}
 use Rattle.mesh.specs.Cover.{Each, coverCount, covers, facesIn, seen, sumTo}
 use Rattle.mesh.specs.Near.{near}
 use Rattle.mesh.specs.Panels.{faceOf, partPanels}
@@ -23,18 +21,17 @@ use Rattle.sheet.specs.Card.{Terms}
 use Rattle.sheet.specs.Row.{measured}
 use Rattle.sheet.specs.Rows.{rowAt, sums}
 use Rattle.sheet.specs.declared.Row.{Row}
-use Rattle.ledger.specs.Book.{Book, Changed, openBook}
-use Rattle.ledger.specs.Calls.{Call, Effect, Four, Origin, accepted, book, effectOf, feed, given, run, step, unfit}
+use Rattle.ledger.specs.Book.{Book, Changed, Source, sourceBook}
+use Rattle.ledger.specs.Calls.{Call, Effect, Four, accepted, book, effectOf, feed, given, run, step, unfit}
 
 -- ---- the list of calls
 
--- it starts from any four, whatever they hold: the first call opens the stand, on their lists or on others, and is accepted
+-- it starts from any four, whatever they hold: the first call opens or loads the stand, on their lists or on others, and is accepted
 pub record Start : Type 0 where
   pub four : Four
   pub first : Call
-  pub origin : Origin
-  pub size : Extent
-  pub opens : effectOf (first .op) ≡ Effect.opensStand origin size
+  pub source : Source
+  pub opens : effectOf (first .op) ≡ Effect.opensStand source
   pub is-accepted : accepted four first ≡ true
 
 -- the four, and the book, after the first call and those of the list
@@ -42,7 +39,7 @@ unfoldable pub fourAfter : Start → List Call → Four
 fourAfter a cs = run (step (a .four) (a .first)) cs
 
 unfoldable pub bookAfter : Start → List Call → Book
-bookAfter a cs = book (openBook (openedShape (a .origin .cell) (a .size))) (feed (step (a .four) (a .first)) cs)
+bookAfter a cs = book (sourceBook (a .source)) (feed (step (a .four) (a .first)) cs)
 
 -- P holds of each call of the list and of the four that it meets
 unfoldable pub All : (Four → Call → Type 0) → Four → List Call → Type 0
@@ -58,7 +55,7 @@ Own (some x) A = A
 
 -- each list that a call uses without opening it is the four's own, or else A holds
 abbrev pub Uses : Effect → Option Storage → Option (List ℕ) → Type 0 → Type 0
-Uses (Effect.opensStand o size) st l A = Unit {0}
+Uses (Effect.opensStand x) st l A = Unit {0}
 Uses (Effect.edits e) st l A = Own st A
 Uses (Effect.opensSheet t m) st l A = Own st A
 Uses (Effect.refreshes t m) st l A = Own st A × Own l A
@@ -71,9 +68,10 @@ Lent s c = Uses (effectOf (c .op)) (c .storage) (c .sheet) (unfit (given s c) (e
 
 -- ---- since the sheet's last accepted opening
 
--- no opening of stand or sheet, and a refresh only with these terms: that opening's card and outside rule
+-- no opening of stand or sheet, no load, and a refresh only with these terms: that opening's card and outside rule
 abbrev pub KeepsTo : Terms → Effect → Type 0
-KeepsTo t (Effect.opensStand o size) = ⊥
+KeepsTo t (Effect.opensStand (Source.empty o size)) = ⊥
+KeepsTo t (Effect.opensStand (Source.form f)) = ⊥
 KeepsTo t (Effect.edits e) = Unit {0}
 KeepsTo t (Effect.opensSheet u m) = ⊥
 KeepsTo t (Effect.refreshes u m) = u ≡ t

@@ -1,14 +1,16 @@
--- Document 01's example and the sheet's refusals, by evaluation of the definitions that the contracts cite.
-use Prim.Native.Nat.{ℕ, _-_}
+-- Document 01's example, the same stand loaded (document 02, 2.2), and the sheet's refusals, by evaluation of the definitions that the
+-- contracts cite.
+use Prim.Native.Nat.{ℕ, zero, suc, _-_}
 use mathlib.Core.Path.{_≡_}
 use mathlib.Core.Bool.{true}
-use mathlib.Core.List.{List, [], _∷_}
+use mathlib.Core.List.{List, [], _∷_, _++_}
 use lib.ListN.{replicate}
 use Rattle.stand.specs.Opening.{openedShape}
 use Rattle.stand.specs.Refusal as R
 use Rattle.stand.specs.Refusal.{Answer, gives}
 use Rattle.stand.specs.Storage.{freshState}
 use Rattle.stand.specs.declared.volume.Volume.{Volume}
+use Rattle.arith.specs.Bytes.{Bytes}
 use Rattle.sheet.specs.Calls.{Verdict, openCall, refreshCall, refused, totalsCall}
 use Rattle.sheet.specs.Card.{Terms, termsOf}
 use Rattle.sheet.specs.declared.Row.{Row}
@@ -57,6 +59,27 @@ totalsOf s = totalsCall (s .state .volume) (s .sheet)
 abbrev pub generationOf : Four → ℕ
 generationOf s = s .state .volume .generation
 
+-- ---- the 17 cells filled, kept in a file
+
+-- the record of a cell with finish 3
+abbrev pub cubeAt : ℕ → ℕ → List ℕ
+cubeAt section within = 2 ∷ section ∷ 0 ∷ within ∷ 0 ∷ 3 ∷ 0 ∷ []
+
+-- those of the first n cells of section 0, then the bytes after them
+abbrev pub cubesThen : ℕ → List ℕ → List ℕ
+cubesThen zero after = after
+cubesThen (suc n) after = cubesThen n (cubeAt 0 n ++ after)
+
+-- 153 bytes; the digest, 7cdfea8f8bc6ee80, was worked out by a program of its own, not by these definitions
+abbrev pub cubes : List ℕ
+cubes =
+    (1 ∷ 0 ∷ 0 ∷ 0 ∷ 0 ∷ 0 ∷ 0 ∷ 0 ∷ 0 ∷ 0 ∷ 0 ∷ 0 ∷ 0 ∷ 17 ∷ 0 ∷ 0 ∷ 0 ∷ 1 ∷ 0 ∷ 0 ∷ 0 ∷ 1 ∷ 0 ∷ 0 ∷ 0 ∷ [])
+    ++ cubesThen 16 (cubeAt 1 0 ++ (0 ∷ 0x80 ∷ 0xee ∷ 0xc6 ∷ 0x8b ∷ 0x8f ∷ 0xea ∷ 0xdf ∷ 0x7c ∷ []))
+
+-- loaded, and the sheet opened
+abbrev pub loading : Bytes cubes → List Call
+loading w = own (Op.loadStand (record { bytes = cubes; typed = w })) ∷ own (Op.openSheet card (maskOf 16)) ∷ []
+
 -- ---- the sheet's refusals, on the 17 cells filled
 
 abbrev pub opening : Terms → Volume → ℕ → List ℕ → Verdict
@@ -92,6 +115,13 @@ pub record Printed (k a b c d e f : ℕ) : Type 0 where
   pub emptied : totalsOf (run (run (seventeenAt k a b c d e f) filling) emptying) ≡ gives (rowIs 6 66 6900)
   pub emptied-at : generationOf (run (run (seventeenAt k a b c d e f) filling) emptying) ≡ 18
 
+-- the stand loaded has the sums of the stand filled, at generation 0, and so after the edit, at generation 1
+pub record Loaded (w : Bytes cubes) (k a b c d e f : ℕ) : Type 0 where
+  pub loaded : totalsOf (run (seventeenAt k a b c d e f) (loading w)) ≡ gives (rowIs 10 70 7500)
+  pub loaded-at : generationOf (run (seventeenAt k a b c d e f) (loading w)) ≡ 0
+  pub emptied : totalsOf (run (run (seventeenAt k a b c d e f) (loading w)) emptying) ≡ gives (rowIs 6 66 6900)
+  pub emptied-at : generationOf (run (run (seventeenAt k a b c d e f) (loading w)) emptying) ≡ 1
+
 pub record Refusals : Type 0 where
   -- 3: a header that opening would not give
   pub three : opening card misfit 16 (replicate 6 0) ≡ refused 3
@@ -121,6 +151,8 @@ pub record Far (a b c d e f g h i : ℕ) : Type 0 where
 
 pub record Quoted : Type 0 where
   pub printed : (k a b c d e f : ℕ) → Printed k a b c d e f
+  pub cubes-typed : Bytes cubes
+  pub loaded : (w : Bytes cubes) (k a b c d e f : ℕ) → Loaded w k a b c d e f
   pub refusals : Refusals
   pub far : (a b c d e f g h i : ℕ) → Far a b c d e f g h i
   -- after a lag above the section count all are measured

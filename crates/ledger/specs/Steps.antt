@@ -9,11 +9,13 @@ use Rattle.stand.specs.Opening as O
 use Rattle.stand.specs.Storage.{State, joined, storage}
 use Rattle.stand.specs.declared.Cell.{Cell}
 use Rattle.stand.specs.declared.volume.Extent.{Extent}
+use Rattle.form.specs.Calls.{loadCall}
 use Rattle.sheet.specs.Calls as S
 use Rattle.sheet.specs.Card.{Terms}
 use Rattle.sheet.specs.declared.Marks.{Marks}
+use Rattle.ledger.specs.Book.{Form, Origin}
 use Rattle.ledger.specs.Reading.{Reading}
-use Rattle.ledger.specs.Calls.{Call, Effect, Four, Op, Origin, accepted, effectOf, given, headerAfter, isDone, isGiven, own, step, unfit}
+use Rattle.ledger.specs.Calls.{Call, Effect, Four, Op, accepted, effectOf, given, headerAfter, isDone, isGiven, own, step, unfit}
 
 -- a call lent the four's own lists: whether it is accepted, and the four after it
 pub record Done (s : Four) (o : Op) (a : Bool) (st : State) (k : Marks) (l : List ℕ) : Type 0 where
@@ -26,6 +28,9 @@ pub record Steps (s : Four) : Type 0 where
   pub open-stand : (o : Origin) (size : Extent)
       → (let r = O.openCall (storage (s .state)) (o .cell) size in
       Done s (Op.openStand o size) (isGiven (r .answer)) (joined (headerAfter (r .answer) (s .state .volume)) (r .storage)) (s .marks) (s .sheet))
+  pub load-stand : (f : Form)
+      → (let r = loadCall (storage (s .state)) (f .bytes) in
+      Done s (Op.loadStand f) (isGiven (r .answer)) (joined (headerAfter (r .answer) (s .state .volume)) (r .storage)) (s .marks) (s .sheet))
   pub set : (c : Cell) (v : ℕ) → (let r = setCall (s .state) c v in Done s (Op.set c v) (isGiven (r .answer)) (r .state) (s .marks) (s .sheet))
   pub set-lent : (c : Cell) (v : ℕ) → (let r = setCall (s .state) c v in Done s (Op.setLent c v) (isGiven (r .answer)) (r .state) (s .marks) (s .sheet))
   pub fill : (c d : Cell) (v : ℕ) → (let r = fillCall (s .state) c d v in Done s (Op.fill c d v) (isGiven (r .answer)) (r .state) (s .marks) (s .sheet))
