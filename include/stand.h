@@ -1,12 +1,13 @@
 /*
- * The stand in C: a store of coated cubes, its edits, its changes, its panels, and their price.
+ * The stand in C: a store of coated cubes, its edits, its changes, its panels, their price, and the form in which
+ * a file keeps it.
  *
  * Link with libexports.a, which `rt staticlib exports` writes (x86-64 Linux).
  *
  * Terms. A cell is a cube at whole coordinates x, y, z; it holds a finish, 1 to 65,535, or 0 for empty.
  * A section is 16 by 16 by 16 cells, the last one along an axis cut short by the stand's size; sections are
  * numbered from 0, x fastest, then y, then z. A panel is a rectangle of visible faces of one side and one
- * finish. The generation counts the changes of a stand since its opening.
+ * finish. The generation counts the changes of a stand since its opening; a load is an opening.
  *
  * Lists. The caller owns all memory. Each list is a pointer followed by a count of entries. Nothing is kept
  * after a call, and nothing is allocated. A pointer must be aligned for its type and not null, even where
@@ -22,7 +23,7 @@
  *     last       n          the generation of each section's last change
  *     sheet      n * 3      the price sheet's rows: panels, faces, cents of each section
  *
- * Masks, panel lists and rates may have any length; each call says what it needs.
+ * Masks, panel lists, rates, forms and outputs may have any length; each call says what it needs.
  *
  * The header. stand_volume goes by value. A call that edits answers the header after it, which the next
  * call must be given: an older header does not fit the lists any more. stand_set_lent alters the caller's
@@ -46,10 +47,11 @@ extern "C" {
 
 enum {
     STAND_OK = 0,
-    STAND_TOO_MANY_CHUNKS = 1,  /* opening: more than 65,536 sections */
-    STAND_PAST_I32 = 2,         /* opening: the last cell is past 2,147,483,647 on an axis */
+    STAND_TOO_MANY_CHUNKS = 1,  /* opening, or loading the size that a form has: more than 65,536 sections */
+    STAND_PAST_I32 = 2,         /* opening, or loading: the last cell is past 2,147,483,647 on an axis */
     STAND_BAD_HEADER = 3,       /* a header whose sizes, sections and last cell opening would not give */
-    STAND_BAD_LENGTH = 4,       /* storage or sheet of another length than the stand needs */
+    STAND_BAD_LENGTH = 4,       /* storage or sheet of another length than the stand needs; in loading, than the
+                                   stand of the form's size needs */
     STAND_OUTSIDE = 5,          /* the cell is outside the stand */
     STAND_LAST_GENERATION = 6,  /* a set that would change at generation 2^64 - 1, or a fill whose box has more
                                    cells in the stand, changed or not, than generations remain */
@@ -63,6 +65,10 @@ enum {
                                    a finish off the list, or one whose rate is above 1,000,000 */
     STAND_BAD_PANEL = 13,       /* a panel's extents not all positive, or their product past i32; a row to be
                                    totalled above 24,576 panels, 24,576 faces or 49,152,000,000 cents */
+    STAND_BAD_FORM = 14,        /* a form cut short, out of order, with an unknown kind, a size below 1, an empty
+                                   finish, a repeated cell, an index within above 4,095, a cell beyond the size,
+                                   bytes after the digest, or a digest that differs */
+    STAND_SHORT_OUTPUT = 15,    /* the output is shorter than the form; no byte of it is written */
     STAND_BAD_ARGUMENT = 100    /* a rule other than 0 and 1, or a side above 5; before all others */
 };
 
@@ -94,7 +100,7 @@ typedef struct {
     int32_t x, y, z;
 } stand_extent;
 
-/* The header. Opening makes it; do not fill it in by hand. */
+/* The header. Opening or loading makes it; do not fill it in by hand. */
 typedef struct {
     stand_cell origin;    /* the lowest cell */
     stand_extent chunks;  /* sections along each axis */
@@ -105,7 +111,7 @@ typedef struct {
 
 typedef struct {
     uint32_t code;
-    stand_volume volume;  /* all 0 where the opening is refused */
+    stand_volume volume;  /* all 0 where the call is refused */
 } stand_opened;
 
 typedef struct {
@@ -349,28 +355,28 @@ stand_panel_given stand_claim(stand_slice slice, uint16_t *mask, size_t mask_cou
    as the largest side among the sections to be measured has cells; 256 are always enough. That many first slots
    are 0 after an accepted call, none where no section is measured, and those past them stay as they were.
 
-   A REFRESH DOES NOT SEE THAT THE SHEET IS STALE. Open the sheet anew after each stand_open, and whenever a
-   rate, the cut or the rule is another one. A stand opened anew counts its changes from 0 again, so an old mark
-   may well be one of its own generations; and a mark knows nothing of rates. A refresh with the old mark then
-   answers code 0, and the OLD PRICE stays. Run by example/stale.c: 17 cells in a row of a finish at 100, cut 50,
-   are told at 7500, mark 17. Opened anew and filled with a finish at 900, the stand has generation 17 again: a
+   A REFRESH DOES NOT SEE THAT THE SHEET IS STALE. Open the sheet anew after each stand_open and stand_load, and
+   whenever a rate, the cut or the rule is another one. A stand opened anew counts its changes from 0 again, so an
+   old mark may well be one of its own generations; and a mark knows nothing of rates. A refresh with the old mark
+   then answers code 0, and the OLD PRICE stays. Run by example/stale.c: 17 cells in a row of a finish at 100, cut
+   50, are told at 7500, mark 17. Opened anew and filled with a finish at 900, the stand has generation 17 again: a
    refresh with mark 17 measures nothing, answers code 0, and stand_totals still says 7500. Measured anew it is
    63500. The same happens where the stand stays and the rate of its finish goes from 100 to 900. */
 
-/* Opens a sheet: every section is measured, and the mark is the generation. Call it anew after each stand_open,
-   and whenever a rate, the cut or the rule is another one: without it stand_refresh may answer code 0 and leave
-   the old price (see above). `mark` is any number; it comes back where the call is refused.
+/* Opens a sheet: every section is measured, and the mark is the generation. Call it anew after each stand_open and
+   stand_load, and whenever a rate, the cut or the rule is another one: without it stand_refresh may answer code 0
+   and leave the old price (see above). `mark` is any number; it comes back where the call is refused.
    Refused: 100, 3, 4, 10, 12; then nothing is written. */
 stand_marked stand_open_sheet(stand_volume volume, uint64_t mark,
                               const uint16_t *cells, size_t cells_count,
                               const uint32_t *rates, size_t rates_count, uint32_t cut, uint32_t rule,
                               uint16_t *mask, size_t mask_count, uint64_t *sheet, size_t sheet_count);
 
-/* Brings the sheet up to the generation: the sections changed since the mark and those that share a face
-   with one are measured anew, all of them after more changes than sections. Give the sheet and the mark as the
-   last accepted stand_open_sheet or stand_refresh left them, and the same rates, cut and rule. With a stand opened
-   since, or with another rate, cut or rule, it may answer code 0 all the same while rows keep the old price (see
-   above): call stand_open_sheet instead. Refused: 100, 3, 4, 8, 10, 12; then nothing is written. */
+/* Brings the sheet up to the generation: the sections changed since the mark and those that share a face with one
+   are measured anew, all of them after more changes than sections. Give the sheet and the mark as the last
+   accepted stand_open_sheet or stand_refresh left them, and the same rates, cut and rule. With a stand opened or
+   loaded since, or with another rate, cut or rule, it may answer code 0 all the same while rows keep the old price
+   (see above): call stand_open_sheet instead. Refused: 100, 3, 4, 8, 10, 12; then nothing is written. */
 stand_marked stand_refresh(stand_volume volume, uint64_t mark,
                            const uint16_t *cells, size_t cells_count,
                            const uint32_t *log, size_t log_count, const uint64_t *last, size_t last_count,
@@ -380,6 +386,63 @@ stand_marked stand_refresh(stand_volume volume, uint64_t mark,
 /* The sums of all rows as the sheet has them: the price line, if it was opened or refreshed after the last edit.
    It writes nothing and measures nothing. Refused: 3, 4, 13. */
 stand_sums stand_totals(stand_volume volume, const uint64_t *sheet, size_t sheet_count);
+
+/* ---- a stand kept in a file: storing writes the output, loading the five lists ---- */
+
+/* The stored form is a list of bytes: records, each of one kind byte and a body of whole numbers, lowest byte
+   first, int32_t in two's complement.
+
+       record   kind   bytes   body                                        which
+       head       1     25     origin x, y, z, size x, y, z: int32_t       one, first
+       cell       2      7     section, index within, finish: uint16_t     one for each occupied cell inside the
+                                                                           stand, ascending by section, then index
+       end        0      9     digest: uint64_t                            one, last
+
+   With k occupied cells inside the stand it has 34 + 7 * k bytes. Section and index within say where the cell is
+   in `cells`: at section * 4096 + index within. The digest is what stand_digest answers for a fresh stand of this
+   origin and size, filled with these cells. docs/FORMAT.md has the form worked out byte by byte.
+
+   Two stands have equal forms if their origins, their sizes and the finishes of all cells inside are equal, and
+   only then. The rest of a stand is not kept: generation, versions, log and last changes are 0 after a load, solid
+   and hashes are made anew from the cells, and entries of `cells` beyond the size are 0. Sheet, rates, cut, rule
+   and marks are no part of the form.
+
+   A LOAD IS AN OPENING. The loaded stand counts its changes from 0 again: a mark of before the load means nothing
+   after it, in stand_changed_since, stand_changed_step or stand_refresh. Open the sheet anew after each
+   stand_load.
+
+   The calls take bytes in memory; reading and writing files is the caller's. example/keep.c keeps a stand in a
+   file, and shows refusals 4, 14 and 15. */
+
+/* How many bytes the form of a stand has: what stand_store needs and then answers. Of the header, generation and
+   solid do not matter. Refused: 3, 4. */
+stand_number stand_stored_length(stand_volume volume, const uint16_t *cells, size_t cells_count);
+
+/* Stores a stand: writes its form to `out`, from its start on. The value is the form's length; bytes after it stay
+   as they were. An output of just that length is enough. Generation and solid of the header do not matter, nor
+   entries of `cells` beyond the size. Refused: 3, 4, 15; then no byte is written. */
+stand_number stand_store(stand_volume volume, const uint16_t *cells, size_t cells_count,
+                         uint8_t *out, size_t out_count);
+
+/* The header that stand_load gives for a form, before any list is lent: stand_chunk_count of it is the n above.
+   The whole form is checked as stand_load checks it, so with lists of the lengths for n stand_load accepts it. It
+   is the header of no stand until stand_load was called. Refused: 1, 2, 14. */
+stand_opened stand_stored_header(const uint8_t *form, size_t form_count);
+
+/* Opens the stand that a form holds. `form_count` is the form's length: bytes after the digest are refused. The
+   lists may hold anything before; each must have exactly the entries for the n of the stored size. After it
+   `cells` holds the form's finishes and 0 everywhere else, beyond the size too; hashes and solid are those of
+   these cells; versions, log, last and the generation are 0. The whole form is checked, its digest too, before
+   anything is written. Refused: 1, 2, 4, 14; then no list is written. 1, 2 and 4 go by the stored origin and size,
+   and apply only where the form begins with a whole head whose sizes are 1 or more, whatever comes after it; a
+   form that does not is refused by 14, whatever the lists' lengths. A size below 1 does not count as 1 here. Open
+   the sheet anew after it. */
+stand_opened stand_load(const uint8_t *form, size_t form_count,
+                        uint16_t *cells, size_t cells_count,
+                        uint64_t *hashes, size_t hashes_count,
+                        uint32_t *versions, size_t versions_count,
+                        uint32_t *log, size_t log_count,
+                        uint64_t *last, size_t last_count);
 
 #ifdef __cplusplus
 }

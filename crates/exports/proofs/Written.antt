@@ -1,4 +1,4 @@
--- From what a call of the stand or of meshing comes to, to what its export comes to.
+-- From what a call of the stand, of its form or of meshing comes to, to what its export comes to.
 use mathlib.Core.Path.{_≡_, _∙_, ap, refl}
 use mathlib.Core.List.{List}
 use mathlib.Core.Option.{Option}
@@ -8,6 +8,7 @@ use Rattle.stand.specs.Opening.{Opening, openingOf}
 use Rattle.stand.specs.Refusal.{Answer, gives, refused}
 use Rattle.stand.specs.Storage.{Outcome, State, Storage, joined, outcomeOf, storage}
 use Rattle.stand.specs.declared.volume.Volume.{Volume}
+use Rattle.form.specs.Calls.{Storing, storingOf}
 use Rattle.mesh.specs.Faces.{Meshed, Meshing, meshingOf}
 use Rattle.mesh.specs.Lay as L
 use Rattle.mesh.specs.Slice as C
@@ -16,8 +17,10 @@ use Rattle.sheet.specs.Calls as P
 use Rattle.sheet.specs.Calls.{Verdict}
 use Rattle.sheet.specs.declared.Marks.{Marks}
 use Rattle.exports.specs.Edit.{Lent, Wrote, editReply, lentOf, lentReply, openReply, repliedEdit, repliedHeader, wroteOf}
+use Rattle.exports.specs.Keep.{storeReply, storeReplyOf}
 use Rattle.exports.specs.Panels.{meshReply, meshReplyOf, repliedPanels}
 use Rattle.exports.specs.Prices.{repliedMark, sheetReply, sheetReplyOf}
+use Rattle.exports.specs.Reply.{replied}
 use Rattle.exports.specs.Slices.{claimReply, claimReplyOf, repliedClaim, repliedSlice, sliceReply, sliceReplyOf}
 use Rattle.exports.specs.declared.edit.Edited.{Edited}
 use Rattle.exports.specs.declared.edit.Opened.{Opened}
@@ -31,6 +34,9 @@ opened-so {s = s} e f = ap (λ r. wroteOf r s) f ∙ ap openReply e
 
 pub edited-so : {a : Answer ℕ} {s : State} {o : Outcome ℕ} {r : Edited} → outcomeOf a s ≡ o → r ≡ repliedEdit a (s .volume) → wroteOf r (storage s) ≡ editReply o
 edited-so {s = s} e f = ap (λ r. wroteOf r (storage s)) f ∙ ap editReply e
+
+pub stored-so : {a : Answer ℕ} {o : List ℕ} {s : Storing} {r : Number} → storingOf a o ≡ s → r ≡ replied a → storeReplyOf r o ≡ storeReply s
+stored-so {o = o} e f = ap (λ r. storeReplyOf r o) f ∙ ap storeReply e
 
 pub meshed-so : {a : Meshed} {m : List ℕ} {l : List ℤ} {o : Meshing} {r : Number} → meshingOf a m l ≡ o → r ≡ repliedPanels a → meshReplyOf r m l ≡ meshReply o
 meshed-so {m = m} {l = l} e f = ap (λ r. meshReplyOf r m l) f ∙ ap meshReply e

@@ -1,5 +1,6 @@
 -- The definitions that the contracts of `exports` cite.
 pub mod Edit
+pub mod Keep
 pub mod Panels
 pub mod Prices
 pub mod Reply

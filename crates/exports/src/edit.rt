@@ -44,7 +44,7 @@ fn no_volume() -> Volume
     }
 }
 
-fn open_reply(a: VolumeAnswer) -> Opened
+pub(crate) fn open_reply(a: VolumeAnswer) -> Opened
     ensures { λ r. ⌜ r ≡ repliedHeader (volumeAnswer a) ⌝ }
 {
     match a {
