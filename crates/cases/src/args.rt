@@ -43,6 +43,12 @@ pub(crate) fn extent(a: Numbers, i: usize) -> Extent
     }
 }
 
+pub(crate) fn byte(a: Numbers, i: usize) -> u8
+    requires { ⌜ i < 64 ⌝ }
+{
+    (arg(a, i) % 256) as u8
+}
+
 pub(crate) fn short(a: Numbers, i: usize) -> u16
     requires { ⌜ i < 64 ⌝ }
 {

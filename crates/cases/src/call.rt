@@ -1,6 +1,8 @@
 // A call, told by its verb's number (src/verb.rt).
 use crate::cells::read_cells;
 use crate::edits::edit;
+use crate::keep::read_form;
+use crate::keep::store;
 use crate::measures::measure;
 use crate::measures::read_sheet;
 use crate::numbers::Numbers;
@@ -27,6 +29,7 @@ fn read(s: Stage, verb: u64, a: Numbers) -> Numbers {
             read_sections(v, storage, lent, verb, a)
         }
         600..=699 => read_lent(s, verb, a),
+        800..=899 => read_form(s, verb, a),
         _ => read_sheet(s, verb),
     }
 }
@@ -42,6 +45,7 @@ pub(crate) fn make(s: Stage, verb: u64, a: Numbers) -> Done {
         602 => slice(s, a),
         603 => claim(s, a),
         700..=701 => measure(s, verb, a),
+        800 => store(s),
         _ => Done {
             stage: s,
             answer: read(s, verb, a),

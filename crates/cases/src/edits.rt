@@ -1,10 +1,11 @@
-// Opening, set and fill.
+// Opening, set, fill and loading.
 use crate::args::cell;
 use crate::args::extent;
 use crate::args::short;
 use crate::lend::lend16;
 use crate::lend::lend32;
 use crate::lend::lend64;
+use crate::lend::some_bytes;
 use crate::numbers::Numbers;
 use crate::numbers::and_extent;
 use crate::numbers::none;
@@ -18,6 +19,7 @@ use exports::edit::Opened;
 use exports::edit::stand_fill;
 use exports::edit::stand_open;
 use exports::edit::stand_set;
+use exports::keep::stand_load;
 use stand::volume::Volume;
 
 // A refused opening keeps the stand.
@@ -37,6 +39,7 @@ fn edit_lent(
     v: Volume,
     verb: u64,
     a: Numbers,
+    form: &[u8],
     cells: &mut [u16],
     hashes: &mut [u64],
     versions: &mut [u32],
@@ -53,13 +56,16 @@ fn edit_lent(
         let finish = short(a, 6);
         return stand_fill(v, cells, hashes, versions, log, last, at, to, finish);
     }
+    if verb == 203 {
+        return opened(v, stand_load(form, cells, hashes, versions, log, last));
+    }
     let size = extent(a, 3);
     opened(v, stand_open(at, size, cells, hashes, versions, log, last))
 }
 
-// The size of a stand just opened; else how many cells changed.
+// The size of a stand just opened or loaded; else how many cells changed.
 fn edited(verb: u64, e: Edited) -> Numbers {
-    if verb == 200 {
+    if verb == 200 || verb == 203 {
         let v = e.volume;
         let size = v.size;
         return said(e.code, and_extent(none(), size));
@@ -80,11 +86,13 @@ pub(crate) fn edit(s: Stage, verb: u64, a: Numbers) -> Done {
     let some_log = lend32(&mut log, lent.log);
     let mut last = old.last;
     let some_last = lend64(&mut last, lent.last);
+    let form = s.form;
     let v = s.volume;
     let e = edit_lent(
         v,
         verb,
         a,
+        some_bytes(&form, lent.form),
         some_cells,
         some_hashes,
         some_versions,

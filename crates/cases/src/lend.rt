@@ -1,6 +1,6 @@
 // The first n entries of a list, all of them where it has fewer. Lists of one type are as long as the longest of them.
 
-pub(crate) fn some_bytes(s: &[u8; 1001], n: usize) -> &[u8] {
+pub(crate) fn some_bytes(s: &[u8; 4096], n: usize) -> &[u8] {
     let t = &s[..];
     if t.len() < n {
         return t;
@@ -46,6 +46,13 @@ pub(crate) fn some_numbers(s: &[i32; 400], n: usize) -> &[i32] {
         return t;
     }
     &t[..n]
+}
+
+pub(crate) fn lend8(s: &mut [u8], n: usize) -> &mut [u8] {
+    if s.len() < n {
+        return s;
+    }
+    &mut s[..n]
 }
 
 pub(crate) fn lend16(s: &mut [u16], n: usize) -> &mut [u16] {

@@ -5,6 +5,7 @@ mod cells;
 mod compare;
 mod edits;
 mod input;
+mod keep;
 mod lend;
 mod measures;
 mod numbers;

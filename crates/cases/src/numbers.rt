@@ -60,6 +60,10 @@ pub(crate) fn and_extent(n: Numbers, e: Extent) -> Numbers {
     and_cell(n, Cell::new(e.x, e.y, e.z))
 }
 
+fn narrow(x: u8) -> u64 {
+    x as u64
+}
+
 fn wide(x: u16) -> u64 {
     x as u64
 }
@@ -69,6 +73,16 @@ fn wider(x: u32) -> u64 {
 }
 
 // The entries of a list.
+pub(crate) fn and_u8(n: Numbers, list: &[u8]) -> Numbers {
+    let mut all = n;
+    let mut i = 0;
+    while i < list.len() {
+        all = and(all, narrow(list[i]));
+        i += 1;
+    }
+    all
+}
+
 pub(crate) fn and_u16(n: Numbers, list: &[u16]) -> Numbers {
     let mut all = n;
     let mut i = 0;

@@ -23,6 +23,7 @@ pub(crate) struct Lent {
     pub list: usize,
     pub rates: usize,
     pub sheet: usize,
+    pub form: usize,
 }
 
 // Calls made, answers compared, and those that differ.
@@ -43,6 +44,7 @@ pub(crate) struct Stage {
     pub cut: u32,
     pub sheet: [u64; 12],
     pub mark: u64,
+    pub form: [u8; 4096],
     pub tally: Tally,
     // Whether the text is over.
     pub over: bool,
@@ -71,6 +73,7 @@ fn unlent() -> Lent {
         list: 400,
         rates: 64,
         sheet: 0,
+        form: 0,
     }
 }
 
@@ -99,6 +102,7 @@ pub(crate) fn first() -> Stage {
         cut: 0,
         sheet: [0u64; 12],
         mark: 0,
+        form: [0u8; 4096],
         tally: Tally {
             calls: 0,
             compared: 0,

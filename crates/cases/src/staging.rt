@@ -1,5 +1,6 @@
 // Lines that set what later calls are lent.
 use crate::args::arg;
+use crate::args::byte;
 use crate::args::cell;
 use crate::args::cents;
 use crate::args::coordinate;
@@ -40,12 +41,13 @@ fn lent_by(old: Lent, verb: u64, a: Numbers) -> Lent {
         102 => lent.mask = n,
         103 => lent.list = n,
         104 => lent.sheet = n,
+        106 => lent.form = n,
         _ => lent.rates = n,
     }
     lent
 }
 
-// New lengths; mask, list and sheet hold a number in each place.
+// New lengths; mask, list, sheet and form hold a number in each place.
 fn lend(s: Stage, verb: u64, a: Numbers) -> Stage {
     let old = s.lent;
     let lent = lent_by(old, verb, a);
@@ -59,6 +61,9 @@ fn lend(s: Stage, verb: u64, a: Numbers) -> Stage {
     }
     if verb == 104 {
         next.sheet = [arg(a, 1); 12];
+    }
+    if verb == 106 {
+        next.form = [byte(a, 1); 4096];
     }
     next
 }
@@ -114,11 +119,39 @@ fn slice(s: Stage, a: Numbers) -> Stage {
     next
 }
 
+// A byte of the form, none past its last.
+fn with_byte(s: Stage, at: usize, x: u8) -> Stage {
+    let mut form = s.form;
+    if at < 4096 {
+        form[at] = x;
+    }
+    let mut next = s;
+    next.form = form;
+    next
+}
+
+// Bytes of the form, one after another from a place on.
+fn put(s: Stage, a: Numbers) -> Stage {
+    let mut at = count(a, 0);
+    let mut next = s;
+    let mut i = 1;
+    while i < 64 {
+        if a.count <= i {
+            return next;
+        }
+        next = with_byte(next, at, byte(a, i));
+        at = std::num::wrapping_add_usize(at, 1);
+        i += 1;
+    }
+    next
+}
+
 pub(crate) fn set_stage(s: Stage, verb: u64, a: Numbers) -> Stage {
     match verb {
         100..=109 => lend(s, verb, a),
         110..=119 => price(s, verb, a),
         120 => header(s, a),
+        122 => put(s, a),
         _ => slice(s, a),
     }
 }

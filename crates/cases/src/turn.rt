@@ -38,7 +38,7 @@ fn stop(line: u64, s: Stage, input: Input, f: u64) -> Stage {
         }
         Input::TooLong => {
             which(line);
-            text(b"longer than 1000 bytes\n");
+            text(b"longer than 4095 bytes\n");
         }
         Input::Line(_) => {
             which(line);
@@ -78,7 +78,7 @@ fn run(line: u64, s: Stage, p: Parsed) -> Stage {
 }
 
 pub(crate) fn turn(line: u64, s: Stage) -> Stage {
-    let mut bytes = [0u8; 1001];
+    let mut bytes = [0u8; 4096];
     let input = read_line(&mut bytes);
     let Input::Line(n) = input else {
         return stop(line, s, input, 0);

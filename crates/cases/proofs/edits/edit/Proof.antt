@@ -35,6 +35,9 @@ slice-aggregate-lend64-2 c = let s = c .before .before .before .before .before .
 lend64-requires-2 : tie.Need-lend64-requires-2
 lend64-requires-2 c κs = search needs
 
+some-bytes-requires : tie.Need-some-bytes-requires
+some-bytes-requires c κs = search needs
+
 edit-lent-requires : tie.Need-edit-lent-requires
 edit-lent-requires c κs = search needs
 
@@ -58,6 +61,7 @@ edit-spec =
     lend32-requires-2
     slice-aggregate-lend64-2
     lend64-requires-2
+    some-bytes-requires
     edit-lent-requires
     edited-requires
     returns)

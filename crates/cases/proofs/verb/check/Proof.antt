@@ -5,13 +5,19 @@ use Rattle.cases.proofs.verb.check.Statement.{statement}
 use Rattle.cases.proofs.verb.check.Tie as tie
 
 abbrev Inv-loop : tie.InvT-loop
-Inv-loop table kinds n a i₀ i = i ≤ 64
+Inv-loop table kinds n a next i₀ i = i ≤ 64
 
 abbrev μ-loop : tie.MeasureT-loop
-μ-loop table kinds n a i₀ i = 64 - i
+μ-loop table kinds n a next i₀ i = 64 - i
 
 returns : tie.Need-returns Inv-loop μ-loop
 returns c = search needs
+
+wrapping-add-usize-requires : tie.Need-wrapping-add-usize-requires Inv-loop μ-loop
+wrapping-add-usize-requires c κs = search needs
+
+peek-requires : tie.Need-peek-requires Inv-loop μ-loop
+peek-requires c κs = search needs
 
 returns-2 : tie.Need-returns-2 Inv-loop μ-loop
 returns-2 c = search needs
@@ -22,11 +28,11 @@ loop-holds c = search needs
 returns-3 : tie.Need-returns-3 Inv-loop μ-loop
 returns-3 c = search needs
 
-wrapping-add-usize-requires : tie.Need-wrapping-add-usize-requires Inv-loop μ-loop
-wrapping-add-usize-requires c κs = search needs
+wrapping-add-usize-requires-2 : tie.Need-wrapping-add-usize-requires-2 Inv-loop μ-loop
+wrapping-add-usize-requires-2 c κs = search needs
 
-peek-requires : tie.Need-peek-requires Inv-loop μ-loop
-peek-requires c κs = search needs
+peek-requires-2 : tie.Need-peek-requires-2 Inv-loop μ-loop
+peek-requires-2 c κs = search needs
 
 mul-fits : tie.Need-mul-fits Inv-loop μ-loop
 mul-fits c = search needs
@@ -59,11 +65,13 @@ check-spec =
     Inv-loop
     μ-loop
     returns
+    wrapping-add-usize-requires
+    peek-requires
     returns-2
     loop-holds
     returns-3
-    wrapping-add-usize-requires
-    peek-requires
+    wrapping-add-usize-requires-2
+    peek-requires-2
     mul-fits
     element-copy-out-fits
     fits-requires
