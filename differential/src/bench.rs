@@ -1,6 +1,7 @@
 //! The benchmark: the same work on both sides, in turns, best of several.
 
 mod beside;
+mod forms;
 mod refresh;
 mod rows;
 mod stand;
@@ -77,6 +78,7 @@ pub fn run() {
     rows::wholes(&mut print);
     refresh::table();
     beside::table();
+    forms::table();
 }
 
 /// The head of a table, with the name of what ours is held against.

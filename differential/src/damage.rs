@@ -3,7 +3,7 @@
 
 mod calls;
 mod edges;
-mod forge;
+pub mod forge;
 
 use crate::calls::list;
 use crate::counts::{Counts, Kind};

@@ -308,4 +308,27 @@ unsafe extern "C" {
         sheet_len: usize,
     ) -> Marked;
     pub fn stand_totals(volume: Volume, sheet: *const u64, sheet_len: usize) -> Sums;
+    pub fn stand_store(
+        volume: Volume,
+        cells: *const u16,
+        cells_len: usize,
+        out: *mut u8,
+        out_len: usize,
+    ) -> Number;
+    pub fn stand_stored_length(volume: Volume, cells: *const u16, cells_len: usize) -> Number;
+    pub fn stand_load(
+        form: *const u8,
+        form_len: usize,
+        cells: *mut u16,
+        cells_len: usize,
+        hashes: *mut u64,
+        hashes_len: usize,
+        versions: *mut u32,
+        versions_len: usize,
+        log: *mut u32,
+        log_len: usize,
+        last: *mut u64,
+        last_len: usize,
+    ) -> Opened;
+    pub fn stand_stored_header(form: *const u8, form_len: usize) -> Opened;
 }

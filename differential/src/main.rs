@@ -10,6 +10,7 @@ mod differences;
 mod exhaustive;
 mod fault;
 mod ffi;
+mod forms;
 mod guard;
 mod many;
 mod model;
@@ -41,6 +42,7 @@ differential --checked    a shorter run that lists the Rust's panics; build it w
 differential --sheet      the price sheet's part alone
 differential --scripts N  the program trial with N random scripts (300,000 unless said)
 differential --lines N    the program quote with N random texts (100,000 unless said)
+differential --forms N    stands kept in a file: N random stands (100,000 unless said)
 differential --self-test  faults put into our side must be found
 differential --bench      times of both sides
 differential --record F   calls with the Rust's answers, written behind the worked cases in F";
@@ -58,7 +60,7 @@ const PAST_I32: ffi::Extent = ffi::Extent {
 struct Args {
     /// Calls of the tiers, if not all.
     calls: Option<u64>,
-    /// Scripts or texts.
+    /// Scripts, texts or stands.
     inputs: Option<u64>,
     seed: u64,
     mode: String,
@@ -78,7 +80,7 @@ fn args() -> Option<Args> {
         match arg.as_str() {
             "--calls" => parsed.calls = Some(rest.next()?.parse().ok()?),
             "--seed" => parsed.seed = rest.next()?.parse().ok()?,
-            "--scripts" | "--lines" => {
+            "--scripts" | "--lines" | "--forms" => {
                 if let Some(next) = rest.next_if(|a| !a.starts_with("--")) {
                     parsed.inputs = Some(next.parse().ok()?);
                 }
@@ -109,6 +111,7 @@ fn main() -> ExitCode {
         "--self-test" => self_test(args.seed),
         "--scripts" => built(false) && trial::run(args.inputs.unwrap_or(trial::SCRIPTS), args.seed),
         "--lines" => built(false) && quote::run(args.inputs.unwrap_or(quote::TEXTS), args.seed),
+        "--forms" => forms::run(args.inputs.unwrap_or(forms::STANDS), args.seed),
         "--sheet" => sheet_alone(&args),
         "--record" => record::run(&args.file, args.seed),
         mode => compare_all(&args, mode == "--checked"),
@@ -121,7 +124,12 @@ fn main() -> ExitCode {
 }
 
 fn self_test(seed: u64) -> bool {
-    let parts = [selftest::run, trial::self_test, quote::self_test];
+    let parts = [
+        selftest::run,
+        forms::self_test,
+        trial::self_test,
+        quote::self_test,
+    ];
     let tested = parts.map(|part| part(seed));
     let faults: usize = tested.iter().map(|t| t.faults).sum();
     let found: usize = tested.iter().map(|t| t.found).sum();

@@ -228,11 +228,21 @@ pub fn opened(origin: Cell, size: Extent) -> Volume {
 }
 
 /// A cell's part of its section's hash: SplitMix64's output for the state within·65,536 + finish.
-fn term(within: usize, finish: u16) -> u64 {
+pub fn term(within: usize, finish: u16) -> u64 {
     let state = (within as u64 * 65_536 + u64::from(finish)).wrapping_add(0x9e37_79b9_7f4a_7c15);
     let a = (state ^ (state >> 30)).wrapping_mul(0xbf58_476d_1ce4_e5b9);
     let b = (a ^ (a >> 27)).wrapping_mul(0x94d0_49bb_1331_11eb);
     b ^ (b >> 31)
+}
+
+/// The digest: of origin, sections, sizes and hashes each is XORed in, then a product modulo 2^64 taken.
+pub fn digest(v: Volume, hashes: &[u64]) -> u64 {
+    let (o, k, n) = (v.origin, v.chunks, v.size);
+    let shape = [o.x, o.y, o.z, k.x, k.y, k.z, n.x, n.y, n.z].map(|n| u64::from(n as u32));
+    let words = shape.iter().chain(hashes);
+    words.fold(0xcbf2_9ce4_8422_2325, |digest, word| {
+        (digest ^ word).wrapping_mul(0x100_0000_01b3)
+    })
 }
 
 /// A set that is not refused, on storage of any contents; whether it changed the cell.
@@ -300,15 +310,18 @@ pub fn solids(v: Volume, cells: &[u16]) -> Vec<(Cell, u32)> {
         .collect()
 }
 
+/// A storage index whose cell lies in the stand, not beyond its size.
+pub fn holds(v: Volume, i: usize) -> bool {
+    let (at, o, size) = (place(v, i), spread(v.origin), wide(v.size));
+    (0..3).all(|a| at[a] - o[a] < size[a])
+}
+
 /// The cells with every slot beyond the size emptied.
 pub fn cut(v: Volume, cells: &[u16]) -> Vec<u16> {
-    let (o, size) = (spread(v.origin), wide(v.size));
-    let inside = |i: usize| {
-        let at = place(v, i);
-        (0..3).all(|a| at[a] - o[a] < size[a])
-    };
     let slots = cells.iter().enumerate();
-    slots.map(|(i, f)| if inside(i) { *f } else { 0 }).collect()
+    slots
+        .map(|(i, f)| if holds(v, i) { *f } else { 0 })
+        .collect()
 }
 
 /// The sections changed since a mark, on log and last changes of any contents.

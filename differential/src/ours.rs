@@ -354,3 +354,37 @@ pub fn refresh(
 pub fn totals(v: Volume, sheet: &[u64]) -> ffi::Sums {
     unsafe { ffi::stand_totals(v, sheet.as_ptr(), sheet.len()) }
 }
+
+/// Writes the form of a stand's cells; the form's length.
+pub fn store(v: Volume, cells: &[u16], out: &mut [u8]) -> Number {
+    unsafe { ffi::stand_store(v, cells.as_ptr(), cells.len(), out.as_mut_ptr(), out.len()) }
+}
+
+pub fn stored_length(v: Volume, cells: &[u16]) -> Number {
+    unsafe { ffi::stand_stored_length(v, cells.as_ptr(), cells.len()) }
+}
+
+/// Opens the stand that a form holds.
+pub fn load(form: &[u8], s: &mut Storage) -> Opened {
+    unsafe {
+        ffi::stand_load(
+            form.as_ptr(),
+            form.len(),
+            s.cells.as_mut_ptr(),
+            s.cells.len(),
+            s.hashes.as_mut_ptr(),
+            s.hashes.len(),
+            s.versions.as_mut_ptr(),
+            s.versions.len(),
+            s.log.as_mut_ptr(),
+            s.log.len(),
+            s.last.as_mut_ptr(),
+            s.last.len(),
+        )
+    }
+}
+
+/// The header that loading would give.
+pub fn stored_header(form: &[u8]) -> Opened {
+    unsafe { ffi::stand_stored_header(form.as_ptr(), form.len()) }
+}

@@ -19,7 +19,7 @@ pub type Same = Result<(), Difference>;
 
 /// Whom our side is held to.
 pub const RUST: &str = "Rust";
-const MODEL: &str = "model";
+pub const MODEL: &str = "model";
 
 /// The first entry where our list parts from the one that it is held to.
 pub fn apart<T: PartialEq + Debug>(name: &str, ours: &[T], whose: &str, due: &[T]) -> Difference {
@@ -31,7 +31,7 @@ pub fn apart<T: PartialEq + Debug>(name: &str, ours: &[T], whose: &str, due: &[T
 }
 
 /// Two answers are equal.
-fn agree<T: PartialEq + Debug>(what: &str, ours: T, whose: &str, due: T) -> Same {
+pub fn agree<T: PartialEq + Debug>(what: &str, ours: T, whose: &str, due: T) -> Same {
     if ours == due {
         return Ok(());
     }
@@ -48,13 +48,13 @@ pub fn equal<T: PartialEq + Debug>(name: &str, ours: &[T], whose: &str, due: &[T
     Err(apart(name, ours, whose, due))
 }
 
-/// All five lists are as they were.
-fn kept(now: &Storage, before: &Storage) -> Same {
-    equal("cells", &now.cells, MODEL, &before.cells)?;
-    equal("hashes", &now.hashes, MODEL, &before.hashes)?;
-    equal("versions", &now.versions, MODEL, &before.versions)?;
-    equal("log", &now.log, MODEL, &before.log)?;
-    equal("last changes", &now.last, MODEL, &before.last)
+/// All five lists are those that are due, entry by entry.
+pub fn equal_lists(ours: &Storage, due: &Storage) -> Same {
+    equal("cells", &ours.cells, MODEL, &due.cells)?;
+    equal("hashes", &ours.hashes, MODEL, &due.hashes)?;
+    equal("versions", &ours.versions, MODEL, &due.versions)?;
+    equal("log", &ours.log, MODEL, &due.log)?;
+    equal("last changes", &ours.last, MODEL, &due.last)
 }
 
 /// A panic of the Rust: the function called, and where it panicked.
@@ -261,7 +261,7 @@ impl Pair {
         let answer = (done.code, done.changed);
         agree("fill beside the stand", answer, MODEL, (code, 0))?;
         agree("header after it", done.volume, MODEL, volume)?;
-        kept(&self.storage, &storage)
+        equal_lists(&self.storage, &storage)
     }
 
     /// The corner that our side takes; by its fault, the nearest cell of the stand.
