@@ -1,9 +1,11 @@
--- Laws of XOR that the library leaves: it associates, and undoes itself.
-use mathlib.Core.Path.{_≡_, refl, sym, ap, ap₂, _∙_}
-use Prim.Native.Nat.{ℕ, zero, suc, _+_, _*_, _/_, _%_, _<_}
+-- Laws of XOR that the library leaves: it associates, undoes itself and cancels; a number XOR itself shifted right is one to one.
+use mathlib.Core.Path.{_≡_, refl, sym, ap, ap₂, _∙_, subst}
+use Prim.Native.Nat.{ℕ, zero, suc, _+_, _*_, _/_, _%_, _^_, _<_, _≤_}
+use native.Mathlib.Numerals.{one-add}
 use native.Mathlib.Omega.{arith}
 use lib.Arith.{bin-ind, digits-div, digits-mod}
-use lib.Bits.{bitXor, differ, xor-comm, xor-self, xor-step, xor-zero-r}
+use lib.Bits.{bitXor, differ, xor-comm, xor-self, xor-shr, xor-step, xor-zero-r}
+use lib.Pow.{shr-le, shr-shr}
 
 -- two binary digits
 differ-bit : (x y : ℕ) → x < 2 → y < 2 → differ x y < 2
@@ -48,3 +50,41 @@ xor-undo h t = xor-assoc h t t ∙ ap (bitXor h) (xor-self t) ∙ xor-zero-r h
 -- two terms in either order
 pub xor-swap : (h s t : ℕ) → bitXor (bitXor h s) t ≡ bitXor (bitXor h t) s
 xor-swap h s t = xor-assoc h s t ∙ ap (bitXor h) (xor-comm s t) ∙ sym (xor-assoc h t s)
+
+-- ---- one to one
+
+-- what is XORed on the right cancels, and on the left
+pub xor-cancel : (a b t : ℕ) → bitXor a t ≡ bitXor b t → a ≡ b
+xor-cancel a b t e = sym (xor-undo a t) ∙ ap (λ (x : ℕ). bitXor x t) e ∙ xor-undo b t
+
+pub xor-cancel-l : (t a b : ℕ) → bitXor t a ≡ bitXor t b → a ≡ b
+xor-cancel-l t a b e = xor-cancel a b t (xor-comm a t ∙ e ∙ xor-comm t b)
+
+-- numbers that XOR to 0 are equal
+xor-equal : (a b : ℕ) → bitXor a b ≡ 0 → a ≡ b
+xor-equal a b e = xor-cancel a b b (e ∙ sym (xor-self b))
+
+-- what leaves a number as it was is 0
+pub xor-kept : (h t : ℕ) → bitXor h t ≡ h → t ≡ 0
+xor-kept h t e = xor-cancel-l h t 0 (e ∙ sym (xor-zero-r h))
+
+-- a number that is itself shifted right is 0
+shift-half : (k z : ℕ) → z / 2 ^ suc k ≤ z / 2
+shift-half k z = subst (λ (n : ℕ). n ≤ z / 2) (shr-shr z 1 k ∙ ap (λ (n : ℕ). z / 2 ^ n) (one-add k)) (shr-le (z / 2) k)
+
+shift-none : (k z : ℕ) → z ≡ z / 2 ^ suc k → z ≡ 0
+shift-none k z e = below z (z / 2 ^ suc k) e (shift-half k z)
+  where
+    below : (z y : ℕ) → z ≡ y → y ≤ z / 2 → z ≡ 0
+    below z y e h = omega arith
+
+-- so a number XOR itself shifted right tells the number: of two that agree, the XOR is its own shift
+pub xor-shift-inj : (k a b : ℕ) → bitXor a (a / 2 ^ suc k) ≡ bitXor b (b / 2 ^ suc k) → a ≡ b
+xor-shift-inj k a b e =
+    xor-equal a b
+    (shift-none k (bitXor a b)
+    (xor-equal (bitXor a b) (bitXor a b / 2 ^ suc k)
+    (ap (bitXor (bitXor a b)) (xor-shr a b (suc k)) ∙ four (a / 2 ^ suc k) (b / 2 ^ suc k) ∙ ap (λ (n : ℕ). bitXor n (bitXor b (b / 2 ^ suc k))) e ∙ xor-self (bitXor b (b / 2 ^ suc k)))))
+  where
+    four : (x y : ℕ) → bitXor (bitXor a b) (bitXor x y) ≡ bitXor (bitXor a x) (bitXor b y)
+    four x y = sym (xor-assoc (bitXor a b) x y) ∙ ap (λ (n : ℕ). bitXor n y) (xor-swap a b x) ∙ xor-assoc (bitXor a x) b y

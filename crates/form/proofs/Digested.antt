@@ -1,21 +1,20 @@
 -- Of a sound stand the form's digest is what the stand's own call answers.
-use mathlib.Core.Path.{_≡_, refl, sym, ap, _∙_}
+use mathlib.Core.Path.{_≡_, sym, ap, _∙_}
 use mathlib.Core.List.{List, _++_}
 use Prim.Native.Nat.{ℕ, _*_, _<_}
 use native.Mathlib.Omega.{arith}
-use borrow.Author.Tests.{eq-eqb}
-use lib.ListN.{getD, length, length-replicate, replicate}
+use lib.ListN.{getD, length-replicate, replicate}
 use lib.Seq.{ext-getD}
-use Rattle.stand.specs.Hash.{digestOf, digestStart, foldWords, shapeWords}
+use Rattle.stand.specs.Hash.{digestOf, digestStart, foldWords}
 use Rattle.stand.specs.Read.{digestCall}
-use Rattle.stand.specs.Refusal.{answer, first, gives}
+use Rattle.stand.specs.Refusal.{gives}
 use Rattle.stand.specs.Shape.{Shape, cellFrom, counted, inside, sections, shapeOf, spotAt}
 use Rattle.stand.specs.Sound.{Sound, termsOf}
 use Rattle.stand.specs.Storage.{State, shape}
-use Rattle.stand.specs.declared.volume.Volume.{Volume}
+use Rattle.stand.proofs.Difference as D
 use Rattle.stand.proofs.Edit.{fitting-lengths}
-use Rattle.stand.proofs.Kept.{zeros}
-use Rattle.stand.proofs.Opened.{anew, same-volume}
+use Rattle.stand.proofs.Kept.{Finishes, zeros}
+use Rattle.stand.proofs.Opened.{shape-words}
 use Rattle.stand.proofs.Shape.{formed-opens}
 use Rattle.stand.proofs.Tests.{by-test}
 use Rattle.form.specs.Entries.{digestWith, entriesOf, insideAt, keptAt, mixed, placed}
@@ -23,7 +22,7 @@ use Rattle.form.proofs.Entries.{Own, each-so, placed-length}
 use Rattle.form.proofs.Loaded.{fresh-hash, mixed-length, mixed-terms}
 use Rattle.form.proofs.OwnEntries.{asc-of, own-of, store-load}
 
-module _ (s : State) (q : Sound s) (small : (j : ℕ) → getD (s .cells) j 0 < 65536) where
+module _ (s : State) (q : Sound s) (small : Finishes (s .cells)) where
   g : Shape
   g = shapeOf (s .volume)
 
@@ -59,18 +58,9 @@ module _ (s : State) (q : Sound s) (small : (j : ℕ) → getD (s .cells) j 0 < 
       ∙ ap (λ (c : List ℕ). termsOf c j 4096) cells-again
       ∙ sym (q .hash j (omega (arith, h, l))))
 
-  anew-words : (v : Volume) → shapeWords (anew v) ≡ shapeWords v
-  unfolding shapeWords
-  anew-words v = refl
-
   pub digest-again : digestWith (shapeOf (s .volume)) (entriesOf (shapeOf (s .volume)) (s .cells)) ≡ digestOf (s .volume) (s .hashes)
   unfolding digestWith digestOf
-  digest-again =
-      let w = ap shapeWords (same-volume (s .volume) (q .formed)) ∙ anew-words (s .volume) in
-      λ i. foldWords digestStart (w i ++ hashes-again i)
+  digest-again = λ i. foldWords digestStart (sym (shape-words (s .volume) (q .formed)) i ++ hashes-again i)
 
   pub digest-told : digestCall (s .volume) (s .hashes) ≡ gives (digestWith (shapeOf (s .volume)) (entriesOf (shapeOf (s .volume)) (s .cells)))
-  unfolding digestCall first answer
-  digest-told =
-      rw (q .formed, eq-eqb (length (s .hashes)) (sections (shapeOf (s .volume)) * 1) (omega (arith, fitting-lengths s (q .fits) .hashes)))
-      (ap gives (sym digest-again))
+  digest-told = D.digest-told s q ∙ ap gives (sym digest-again)

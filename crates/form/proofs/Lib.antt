@@ -5,7 +5,6 @@ pub mod Digested
 pub mod Entries
 pub mod Example
 pub mod Filling
-pub mod Folding
 pub mod Keeping
 pub mod Loaded
 pub mod Loads

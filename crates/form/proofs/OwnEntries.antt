@@ -8,7 +8,7 @@ use lib.Dec.{eqb}
 use lib.ListN.{getD, length, length-replicate, replicate}
 use borrow.Author.Tests.{eqb-false}
 use Rattle.stand.specs.Shape.{Shape, opens, sections}
-use Rattle.stand.proofs.Kept.{zeros}
+use Rattle.stand.proofs.Kept.{Finishes, zeros}
 use Rattle.stand.proofs.Shape.{sections-few}
 use Rattle.stand.proofs.Tests.{by-test}
 use Rattle.form.specs.Entries.{Entry, entriesFrom, entriesOf, entryOf, keptAt, insideAt, placed}
@@ -26,7 +26,7 @@ entries-each P look (suc m) k h =
     (λ q. rw q (entries-each P look m (suc k) (λ j a c. h j (omega arith) (omega arith))))
     (λ q. rw q (h k (omega arith) (omega arith) (eqb-false (look k) 0 q), entries-each P look m (suc k) (λ j a c. h j (omega arith) (omega arith))))
 
-module _ (g : Shape) (cells : List ℕ) (o : opens g ≡ true) (small : (j : ℕ) → getD cells j 0 < 65536) where
+module _ (g : Shape) (cells : List ℕ) (o : opens g ≡ true) (small : Finishes cells) where
   kept-inside : (j : ℕ) → (keptAt g cells j ≡ 0 → ⊥) → insideAt g j ≡ true
   unfolding keptAt
   kept-inside j n = by-test (insideAt g j) (λ q. q) (λ q. absurd (n (rw q)))

@@ -5,12 +5,12 @@ use mathlib.Core.List.{List}
 use Prim.Native.Nat.{ℕ}
 use lib.ListN.{getD}
 use Rattle.stand.specs.Edit.{look}
-use Rattle.stand.specs.Shape.{Shape, cellFrom, counted, countsOf, inside, opens, shapeOf, slot, spotAt}
+use Rattle.stand.specs.Shape.{Shape, cellFrom, counted, inside, opens, shapeOf, slot, spotAt}
 use Rattle.stand.specs.Storage.{volumeOf}
 use Rattle.stand.specs.declared.Cell.{Cell}
 use Rattle.stand.specs.declared.volume.Volume.{Volume}
 use Rattle.stand.proofs.Opened.{same-volume}
-use Rattle.stand.proofs.Shape.{slot-lt}
+use Rattle.stand.proofs.Shape.{shape-same, slot-lt}
 use Rattle.stand.proofs.Slots.{cell-from-slot, slot-of-cell}
 use Rattle.stand.proofs.Tests.{by-test}
 use Rattle.form.specs.Calls.{storedForm}
@@ -54,13 +54,9 @@ module _ (g h : Shape) (p : g ≡ h) (xs ys : List ℕ) where
 -- ---- stands
 
 module _ (v w : Volume) (xs ys : List ℕ) where
-  same-shape : Same v xs w ys → shapeOf v ≡ shapeOf w
-  unfolding shapeOf
-  same-shape e = λ i. record { origin = e .origin i; size = countsOf (e .size i) }
-
   pub same-form : Same v xs w ys → storedForm v xs ≡ storedForm w ys
   unfolding storedForm
-  same-form e = forms-same (shapeOf v) (shapeOf w) (same-shape e) xs ys (e .cells)
+  same-form e = forms-same (shapeOf v) (shapeOf w) (shape-same v w (e .origin) (e .size)) xs ys (e .cells)
 
   pub same-stands : Storable v xs → Storable w ys → storedForm v xs ≡ storedForm w ys → Same v xs w ys
   unfolding storedForm

@@ -10,7 +10,7 @@ use borrow.Author.Tests.{eq-eqb, le-leb, lt-ltb}
 use Rattle.stand.specs.Shape.{Shape, sections}
 use Rattle.stand.specs.Hash.{digestOf, digestStart, shapeWords}
 use Rattle.stand.specs.Storage.{volumeOf}
-use Rattle.form.proofs.Folding.{folds-lt}
+use Rattle.stand.proofs.Hash.{folds-lt}
 use Rattle.arith.specs.Bytes.{byteAt, doubleAt, doubleBytes, shortAt, shortBytes}
 use Rattle.form.specs.Entries.{Entry, digestWith, mixed}
 use Rattle.form.specs.Form.{entriesBytes, entryBytes, entryIn, formOf, goodFrom, goodIn, headBytes, tailBytes, valid}

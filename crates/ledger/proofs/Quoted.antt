@@ -55,7 +55,7 @@ abbrev allBytes : List ℕ → Bool
 allBytes [] = true
 allBytes (x ∷ xs) = ltb x 256 && allBytes xs
 
-bytes-so : (f : List ℕ) → allBytes f ≡ true → Bytes f
+pub bytes-so : (f : List ℕ) → allBytes f ≡ true → Bytes f
 bytes-so [] e i = omega arith
 bytes-so (x ∷ xs) e zero = ltb-true x 256 (both (ltb x 256) (allBytes xs) e .0)
 bytes-so (x ∷ xs) e (suc i) = bytes-so xs (both (ltb x 256) (allBytes xs) e .1) i

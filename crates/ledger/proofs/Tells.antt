@@ -245,11 +245,11 @@ abbrev pub sourceRefusal : Source → Lengths → ℕ
 sourceRefusal (Source.empty o size) l = openRefusal (openedShape (o .cell) size) l
 sourceRefusal (Source.form f) l = loadRefusal (f .bytes) l
 
-abbrev sourceHeader : Source → Volume
+abbrev pub sourceHeader : Source → Volume
 sourceHeader (Source.empty o size) = volumeOf (openedShape (o .cell) size) 0 0
 sourceHeader (Source.form f) = volumeOf (headShape (f .bytes)) 0 (countIn (f .bytes))
 
-abbrev sourceStorage : Source → Storage
+abbrev pub sourceStorage : Source → Storage
 sourceStorage (Source.empty o size) = freshStorage (sections (openedShape (o .cell) size))
 sourceStorage (Source.form f) = loadedStorage (headShape (f .bytes)) (entriesIn (f .bytes))
 

@@ -19,7 +19,7 @@ use Rattle.stand.specs.declared.volume.Volume.{Volume}
 use Rattle.stand.specs.declared.volume.shape.Point.{Point}
 use Rattle.stand.specs.declared.volume.shape.Region.{Region}
 use Rattle.stand.proofs.Parts.{Parts, box-inside, length-none, parts-length, solids}
-use Rattle.stand.proofs.Kept.{set-sound}
+use Rattle.stand.proofs.Kept.{Finishes, set-finishes, set-sound}
 use Rattle.stand.proofs.Edit.{by-edited, put-generation, set-fitting, set-formed, set-keeps, set-shape, storable, storage-turned}
 use Rattle.stand.proofs.Shape.{chunks-some, formed-counts, formed-opens, goods, sections-few, slot-at-lt, slot-from, stored}
 
@@ -255,3 +255,9 @@ unfolding fillCall
 fill-call-sound s a b v q =
     by-edited (λ (o : Outcome ℕ). Sound (o .state)) (fillRefusal (wellFormed (s .volume)) (fitting s) (shape s) (s .volume .generation) a b) s (fillDef s a b v)
     (λ k e. q) (λ e. fill-sound s a b v q)
+
+pub fill-call-finishes : (s : State) (a b : Cell) (v : ℕ) → v < 65536 → Finishes (s .cells) → Finishes (fillCall s a b v .state .cells)
+unfolding fillCall fillDef
+fill-call-finishes s a b v l h =
+    by-edited (λ (o : Outcome ℕ). Finishes (o .state .cells)) _ s (fillDef s a b v) (λ k e. h)
+    (λ e. each-keeps (λ (t : State). Finishes (t .cells)) v (boxCells (shape s) (boxOf (shape s) a b)) (λ t c m. set-finishes t c v l) (editedOf 0 s) h)

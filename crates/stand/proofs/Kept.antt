@@ -1,7 +1,7 @@
 -- Opening gives a sound stand, and changes keep it sound.
 use mathlib.Core.Path.{_≡_, refl, sym, ap, _∙_}
 use mathlib.Core.Bool.{Bool, true, false, cond, false≢true}
-use mathlib.Core.List.{List}
+use mathlib.Core.List.{List, [], _∷_}
 use Prim.Native.Nat.{ℕ, zero, suc, _+_, _*_, _/_, _%_, _^_, _<_, _≤_}
 use native.Mathlib.Nat.{mod-eq-of-lt}
 use native.Mathlib.Omega.{arith}
@@ -86,6 +86,28 @@ set-call-sound s c v q =
     by-edited (λ (o : Outcome ℕ). Sound (o .state)) (setRefusal (wellFormed (s .volume)) (fitting s) (shape s) (s .volume .generation) (look (shape s) (s .cells) c) c v) s (setDef s c v)
     (λ k e. q)
     (λ e. set-sound s c v q (settable _ _ _ _ _ _ _ e .inside-is))
+
+-- ---- finishes
+
+-- each slot holds a u16, as the type of the lent list has it
+abbrev pub Finishes : List ℕ → Type 0
+Finishes cells = (k : ℕ) → getD cells k 0 < 65536
+
+finish-set : (cells : List ℕ) (i v : ℕ) → v < 65536 → Finishes cells → Finishes (set cells i v)
+finish-set [] i v l h k = h k
+finish-set (x ∷ xs) zero v l h zero = l
+finish-set (x ∷ xs) zero v l h (suc k) = h (suc k)
+finish-set (x ∷ xs) (suc i) v l h zero = h zero
+finish-set (x ∷ xs) (suc i) v l h (suc k) = finish-set xs i v l (λ j. h (suc j)) k
+
+pub set-finishes : (s : State) (c : Cell) (v : ℕ) → v < 65536 → Finishes (s .cells) → Finishes (setDef s c v .state .cells)
+unfolding setDef changed
+set-finishes s c v l h = by-put (λ (e : Edited). Finishes (e .state .cells)) s (slot (shape s) c) v (λ e. h) (λ n. finish-set (s .cells) (slot (shape s) c) v l h)
+
+-- any call of set
+pub set-call-finishes : (s : State) (c : Cell) (v : ℕ) → v < 65536 → Finishes (s .cells) → Finishes (setCall s c v .state .cells)
+unfolding setCall
+set-call-finishes s c v l h = by-edited (λ (o : Outcome ℕ). Finishes (o .state .cells)) _ s (setDef s c v) (λ k e. h) (λ e. set-finishes s c v l h)
 
 -- ---- a stand just opened
 

@@ -2,10 +2,12 @@
 pub mod Box
 pub mod Cellwise
 pub mod Common
+pub mod Difference
 pub mod Edit
 pub mod Feed
 pub mod Fill
 pub mod Formed
+pub mod Hash
 pub mod Held
 pub mod Kept
 pub mod Levels

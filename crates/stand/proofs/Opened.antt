@@ -5,6 +5,7 @@ use Prim.Native.Nat.{ℕ, _≤_}
 use native.Mathlib.Omega.{arith}
 use lib.IntN.{ℤ, pos, negsuc}
 use Rattle.arith.specs.Level.{countOf}
+use Rattle.stand.specs.Hash.{shapeWords}
 use Rattle.stand.specs.Opening.{headerCall, lastInside, openedShape, shapeRules, sizesOf}
 use Rattle.stand.specs.Refusal.{answer, first, gives}
 use Rattle.stand.specs.Shape.{Shape, countsOf, pointOf, shapeOf, wellFormed}
@@ -67,3 +68,11 @@ module _ (v : Volume) (ok : wellFormed v ≡ true) where
 pub opened-formed : (v : Volume) → headerCall (v .origin) (v .size) ≡ gives (anew v) → wellFormed v ≡ true
 unfolding wellFormed
 opened-formed v e = given-formed (v .origin) (v .size) {v = anew v} (sym e)
+
+-- the digest takes of a header that 3 lets pass what its shape has
+pub shape-words : (v : Volume) → wellFormed v ≡ true → shapeWords v ≡ shapeWords (volumeOf (shapeOf v) 0 0)
+unfolding shapeWords
+shape-words v ok = sym (ap shapeWords (same-volume v ok) ∙ anew-words)
+  where
+    anew-words : shapeWords (anew v) ≡ shapeWords v
+    anew-words = refl

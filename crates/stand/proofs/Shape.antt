@@ -74,6 +74,11 @@ pub formed-opens : (v : Volume) → wellFormed v ≡ true → opens (shapeOf v) 
 unfolding opens wellFormed shapeOf
 formed-opens v e = rw (← formed-counts v e) e
 
+-- headers of one origin and size have one shape
+pub shape-same : (v w : Volume) → v .origin ≡ w .origin → v .size ≡ w .size → shapeOf v ≡ shapeOf w
+unfolding shapeOf
+shape-same v w p q = λ i. record { origin = p i; size = countsOf (q i) }
+
 -- ---- cells inside
 
 inside-lt : (n : ℕ) (d : ℤ) → (leZ (pos 0) d && ltZ d (pos n)) ≡ true → natAbs d < n

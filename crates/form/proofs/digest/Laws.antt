@@ -11,17 +11,15 @@ use lib.ListN.{drop, getD, length, length-replicate, length-set, replicate, set}
 use lib.Seq.{drop-cons, drop-length, getD-set-other, getD-set-same}
 use Rattle.stand.specs.Edit.{toggled}
 use Rattle.stand.specs.Hash.{digestOf, digestStart, foldWord, foldWords, shapeWords}
-use Rattle.stand.specs.Shape.{Shape, sections, shapeOf, wellFormed}
-use Rattle.stand.specs.declared.volume.Volume.{Volume}
-use Rattle.stand.proofs.Opened.{anew, same-volume}
+use Rattle.stand.specs.Shape.{Shape, sections}
 use Rattle.stand.specs.Storage.{volumeOf}
+use Rattle.stand.proofs.Hash.{folds-append}
 use Rattle.stand.proofs.Kept.{zeros}
 use Rattle.stand.proofs.Tests.{by-test}
 use Rattle.form.specs.Entries.{Entry, digestWith, mixed}
 use Rattle.form.specs.Form.{entriesAt, entryIn}
 use Rattle.form.specs.Inner.{Asc, Each, recordAt, runFrom, runOf}
 use Rattle.form.specs.declared.digest.Run.{Run}
-use Rattle.form.proofs.Folding.{folds-append}
 use Rattle.form.proofs.Loaded.{mixed-length}
 
 -- ---- hashes by section
@@ -166,13 +164,6 @@ streams-all f n g m {start} {i} {k} {acc} s em es e =
     let d : drop i hs ≡ [] = ap (λ (m : ℕ). drop m hs) l ∙ drop-length hs in
     sym (ap (foldWords acc) d) ∙ s .folded ∙ (λ j. foldWords (es j) (mixed (entriesAt f 25 n) (replicate (em j) 0)))
     ∙ sym (folds-append digestStart (shapeWords (volumeOf g 0 0)) (mixed (entriesAt f 25 n) (replicate (sections g) 0)))
-
-anew-words : (v : Volume) → shapeWords (anew v) ≡ shapeWords v
-unfolding shapeWords
-anew-words v = refl
-
-pub shape-words : (v : Volume) → wellFormed v ≡ true → shapeWords v ≡ shapeWords (volumeOf (shapeOf v) 0 0)
-shape-words v ok = sym (ap shapeWords (same-volume v ok) ∙ anew-words v)
 
 -- ---- for the code: a run, record by record
 

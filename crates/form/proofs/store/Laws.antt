@@ -6,7 +6,7 @@ use Prim.Native.Nat.{ℕ, zero, suc, _+_, _*_, _<_, _≤_}
 use native.Mathlib.Omega.{arith}
 use borrow.Author.Tests.{le-ltb, lt-ltb, eqb-true, not-false}
 use lib.Dec.{eqb, ltb}
-use lib.ListN.{getD, length, drop, length-append}
+use lib.ListN.{length, drop, length-append}
 use Rattle.stand.specs.Shape.{sections, shapeOf, wellFormed}
 use Rattle.form.specs.Entries.{entriesOf, digestWith}
 use Rattle.form.specs.Form.{entriesAt, entriesBytes, formOf, headBytes, tailBytes}
@@ -14,6 +14,7 @@ use Rattle.form.specs.Inner.{Lendable, Ordered}
 use lib.Seq.{sets, sets-eq}
 use Rattle.stand.specs.Refusal.{_⇒_, first, gives, listRules, refused}
 use Rattle.stand.specs.declared.volume.Volume.{Volume}
+use Rattle.stand.proofs.Kept.{Finishes}
 use Rattle.stand.proofs.Refusal.{first-part, first-rest, numbered, passes}
 use Rattle.stand.proofs.Shape.{formed-opens}
 use Rattle.form.specs.Calls.{storeCall, stored, storedForm, storingOf}
@@ -24,7 +25,7 @@ use Rattle.form.proofs.Reading.{entries-back, entries-length, form-leng
 
 -- ---- the whole form
 
-module _ (v : Volume) (cells out₀ : List ℕ) (k : Lendable v (length cells)) (small : (j : ℕ) → getD cells j 0 < 65536) where
+module _ (v : Volume) (cells out₀ : List ℕ) (k : Lendable v (length cells)) (small : Finishes cells) where
   module _ {n : ℕ} (en : n ≡ length (entriesOf (shapeOf v) cells)) (room : 34 + n * 7 ≤ length out₀) {a b : List ℕ}
       (ea : a ≡ sets out₀ 0 (headBytes (shapeOf v))) (eb : b ≡ sets a 25 (entriesBytes (entriesOf (shapeOf v) cells))) where
     front-written : b ≡ sets out₀ 0 (headBytes (shapeOf v) ++ entriesBytes (entriesOf (shapeOf v) cells))

@@ -7,11 +7,12 @@ use denote.Ref.{now}
 use lib.ListN.{replicate}
 use Rattle.stand.specs.Hash.{digestStart, foldWord, foldWords}
 use Rattle.stand.specs.Shape.{shapeOf}
+use Rattle.stand.proofs.Opened.{shape-words}
 use Rattle.form.specs.Entries.{Entry, mixed}
 use Rattle.form.specs.Form.{entriesAt}
 use Rattle.form.specs.Inner.{Each, runFrom}
 use Rattle.form.specs.declared.digest.Run.{Run}
-use Rattle.form.proofs.digest.Laws.{Streams, hashes-count, shape-words, streams-all, streams-more, streams-none}
+use Rattle.form.proofs.digest.Laws.{Streams, hashes-count, streams-all, streams-more, streams-none}
 use Rattle.form.proofs.digest.form_digest.Statement.{statement}
 use Rattle.form.proofs.digest.form_digest.Tie as tie
 

@@ -1,0 +1,2 @@
+-- Products modulo 2 ^ 64.
+pub mod Laws
