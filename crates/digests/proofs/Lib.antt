@@ -1,0 +1,4 @@
+-- Theorems of `digests`.
+pub mod ByCalls
+pub mod Digests
+pub mod Example

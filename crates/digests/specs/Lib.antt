@@ -1,0 +1,3 @@
+-- What hashes and digests tell of two stands: the theorem's statement, and worked stands.
+pub mod Digests
+pub mod Example

@@ -1,0 +1,1 @@
+// What hashes and digests tell of two stands: definitions and theorems, and no code.
