@@ -277,15 +277,22 @@ stand_number stand_get(stand_volume volume, const uint16_t *cells, size_t cells_
 /* The section of a cell. Refused also: 5. */
 stand_number stand_chunk_of(stand_volume volume, stand_cell cell);
 
-/* The hash of a section's cells. Refused also: 7. */
+/* The hash of a section's cells. What it tells of two stands is said at stand_digest. Refused also: 7. */
 stand_number stand_chunk_hash(stand_volume volume, const uint64_t *hashes, size_t hashes_count, size_t chunk);
 
 /* The version of a section: its changes, modulo 2^32. Refused also: 7. */
 stand_number stand_chunk_version(stand_volume volume, const uint32_t *versions, size_t versions_count,
                                  size_t chunk);
 
-/* One number over origin, sections, size and all hashes. Two stands of the same origin and the same size, with
-   the same finish in each cell, have the same one, however they were edited. */
+/* One number over origin, sections, size and all hashes, by which two tablets compare their stands. Promised of two
+   stands of the same origin and the same size, however each was opened, loaded and edited:
+   - with the same finish in each cell they have the same digest, and the same hash of each section;
+   - with one cell off, of another finish, or empty on one and not on the other, they have different digests, and
+     different hashes of that cell's section; the hashes of all other sections are the same.
+   So a set that changes a cell changes the digest. Nothing is promised of stands that differ in two cells or more, in
+   origin or in size: they may have the same digest. example/compare.c finds the section of a cell that is off, and has
+   two stands of five cells with two cells off and one digest. Where that is not enough, compare what stand_store
+   writes: equal forms mean equal stands. Hashes are meant as the calls leave them. */
 stand_number stand_digest(stand_volume volume, const uint64_t *hashes, size_t hashes_count);
 
 /* How many faces a panel of these extents has: their product. Refused: 13 alone. */
