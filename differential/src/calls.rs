@@ -65,6 +65,7 @@ pub fn list(mix: Mix, count: usize, rng: &mut Rng) -> Vec<Call> {
 }
 
 /// Makes calls for the stand that the last opening gave.
+#[derive(Clone, Copy)]
 pub struct Maker {
     mix: Mix,
     pub origin: Cell,

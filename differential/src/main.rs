@@ -14,6 +14,7 @@ mod forms;
 mod guard;
 mod many;
 mod model;
+mod one_off;
 mod openings;
 mod ours;
 mod pair;
@@ -43,6 +44,7 @@ differential --sheet      the price sheet's part alone
 differential --scripts N  the program trial with N random scripts (300,000 unless said)
 differential --lines N    the program quote with N random texts (100,000 unless said)
 differential --forms N    stands kept in a file: N random stands (100,000 unless said)
+differential --one-off N  one cell off: digests of N random stands (10,000 unless said)
 differential --self-test  faults put into our side must be found
 differential --bench      times of both sides
 differential --record F   calls with the Rust's answers, written behind the worked cases in F";
@@ -80,7 +82,7 @@ fn args() -> Option<Args> {
         match arg.as_str() {
             "--calls" => parsed.calls = Some(rest.next()?.parse().ok()?),
             "--seed" => parsed.seed = rest.next()?.parse().ok()?,
-            "--scripts" | "--lines" | "--forms" => {
+            "--scripts" | "--lines" | "--forms" | "--one-off" => {
                 if let Some(next) = rest.next_if(|a| !a.starts_with("--")) {
                     parsed.inputs = Some(next.parse().ok()?);
                 }
@@ -112,6 +114,7 @@ fn main() -> ExitCode {
         "--scripts" => built(false) && trial::run(args.inputs.unwrap_or(trial::SCRIPTS), args.seed),
         "--lines" => built(false) && quote::run(args.inputs.unwrap_or(quote::TEXTS), args.seed),
         "--forms" => forms::run(args.inputs.unwrap_or(forms::STANDS), args.seed),
+        "--one-off" => one_off::run(args.inputs.unwrap_or(one_off::STANDS), args.seed),
         "--sheet" => sheet_alone(&args),
         "--record" => record::run(&args.file, args.seed),
         mode => compare_all(&args, mode == "--checked"),
@@ -127,6 +130,7 @@ fn self_test(seed: u64) -> bool {
     let parts = [
         selftest::run,
         forms::self_test,
+        one_off::self_test,
         trial::self_test,
         quote::self_test,
     ];

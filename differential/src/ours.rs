@@ -1,6 +1,7 @@
 //! Our side: the C interface over slices, and a stand with storage of its own.
 
 use crate::ffi::{self, Cell, Edited, Extent, Number, Opened, Volume};
+use crate::rng::Rng;
 
 /// The five lists that a stand is lent.
 #[derive(Clone, PartialEq, Debug, Default)]
@@ -32,6 +33,17 @@ impl Storage {
             log: vec![0; sections],
             last: vec![0; sections],
         }
+    }
+
+    /// Lists that hold anything.
+    pub fn any(sections: usize, rng: &mut Rng) -> Self {
+        let mut s = Self::zeros(sections);
+        s.cells.iter_mut().for_each(|n| *n = rng.next() as u16);
+        s.hashes.iter_mut().for_each(|n| *n = rng.next());
+        s.versions.iter_mut().for_each(|n| *n = rng.next() as u32);
+        s.log.iter_mut().for_each(|n| *n = rng.next() as u32);
+        s.last.iter_mut().for_each(|n| *n = rng.next());
+        s
     }
 }
 

@@ -68,7 +68,7 @@ impl Case {
         stores(check, v, &s.cells, rng)?;
         stores(check, any.0, &any.1, rng)?;
         refused_stores(check, v, &s.cells, rng)?;
-        let noise = noise(s.hashes.len(), rng);
+        let noise = Storage::any(s.hashes.len(), rng);
         let goods = [(v, &s.cells), (any.0, &any.1)].map(|(v, c)| Good::of(Form::of(v, c)));
         check.part = Part::Loaded;
         for good in &goods {
@@ -126,17 +126,6 @@ fn any_contents(v: Volume, s: &Storage, rng: &mut Rng) -> (Volume, Vec<u16>) {
         }
     }
     (v, cells)
-}
-
-/// Lists that hold anything.
-fn noise(sections: usize, rng: &mut Rng) -> Storage {
-    let mut s = Storage::zeros(sections);
-    s.cells.iter_mut().for_each(|n| *n = rng.next() as u16);
-    s.hashes.iter_mut().for_each(|n| *n = rng.next());
-    s.versions.iter_mut().for_each(|n| *n = rng.next() as u32);
-    s.log.iter_mut().for_each(|n| *n = rng.next() as u32);
-    s.last.iter_mut().for_each(|n| *n = rng.next());
-    s
 }
 
 /// Into no output, one any bytes short, one byte short, just long enough, longer.
