@@ -8,17 +8,17 @@
 
 #define SECTIONS 2
 
-/* a tablet with a row of cells along x, in two sections at most */
+/* a tablet with cells along x, in two sections at most */
 typedef struct {
     stand_volume volume;
     uint16_t cells[SECTIONS * 4096];
     uint64_t hashes[SECTIONS], last[SECTIONS];
-    uint32_t versions[SECTIONS], changes[SECTIONS];
+    uint32_t versions[SECTIONS], log[SECTIONS];
     size_t n;
 } tablet;
 
 #define STORAGE(t) \
-    (t)->cells, (t)->n * 4096, (t)->hashes, (t)->n, (t)->versions, (t)->n, (t)->changes, (t)->n, (t)->last, (t)->n
+    (t)->cells, (t)->n * 4096, (t)->hashes, (t)->n, (t)->versions, (t)->n, (t)->log, (t)->n, (t)->last, (t)->n
 
 static stand_cell at(int32_t x) {
     return (stand_cell){x, 0, 0};
@@ -37,7 +37,7 @@ static uint64_t digest(const tablet *t) {
     return stand_digest(t->volume, t->hashes, t->n).value;
 }
 
-/* Both digests, and whether they are the same; where they are not, the sections whose hashes differ. */
+/* Both digests, whether they are the same, and each section whose hashes differ. */
 static void compare(const char *what, const tablet *a, const tablet *b) {
     printf("%s: %016" PRIx64 " and %016" PRIx64 ", %s\n", what, digest(a), digest(b),
            digest(a) == digest(b) ? "the same" : "different");

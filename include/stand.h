@@ -292,7 +292,7 @@ stand_number stand_chunk_version(stand_volume volume, const uint32_t *versions, 
    So a set that changes a cell changes the digest. Nothing is promised of stands that differ in two cells or more, in
    origin or in size: they may have the same digest. example/compare.c finds the section of a cell that is off, and has
    two stands of five cells with two cells off and one digest. Where that is not enough, compare what stand_store
-   writes: equal forms mean equal stands. Hashes are meant as the calls leave them. */
+   writes: equal forms mean equal stands. All this is said of header and hashes as the calls left them. */
 stand_number stand_digest(stand_volume volume, const uint64_t *hashes, size_t hashes_count);
 
 /* How many faces a panel of these extents has: their product. Refused: 13 alone. */

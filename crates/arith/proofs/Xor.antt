@@ -68,10 +68,11 @@ xor-equal a b e = xor-cancel a b b (e ∙ sym (xor-self b))
 pub xor-kept : (h t : ℕ) → bitXor h t ≡ h → t ≡ 0
 xor-kept h t e = xor-cancel-l h t 0 (e ∙ sym (xor-zero-r h))
 
--- a number that is itself shifted right is 0
+-- shifted right by one or more, a number is at most its half
 shift-half : (k z : ℕ) → z / 2 ^ suc k ≤ z / 2
 shift-half k z = subst (λ (n : ℕ). n ≤ z / 2) (shr-shr z 1 k ∙ ap (λ (n : ℕ). z / 2 ^ n) (one-add k)) (shr-le (z / 2) k)
 
+-- so one that is itself shifted right is 0
 shift-none : (k z : ℕ) → z ≡ z / 2 ^ suc k → z ≡ 0
 shift-none k z e = below z (z / 2 ^ suc k) e (shift-half k z)
   where

@@ -1,2 +1,2 @@
--- Products modulo 2 ^ 64.
+-- Laws of sums and products modulo 2 ^ 64.
 pub mod Laws

@@ -26,6 +26,7 @@ use Rattle.ledger.proofs.Lent.{fill-lent, set-lent}
 use Rattle.ledger.proofs.Tells.{by-opening, open-passed, sourceHeader, sourceRefusal, sourceStorage}
 use Rattle.digests.specs.Digests.{AllTyped, ByCalls, Typed, standOf}
 
+-- sound, with finishes of u16
 pub record Good (s : State) : Type 0 where
   pub sound : Sound s
   pub finishes : Finishes (s .cells)

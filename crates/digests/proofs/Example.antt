@@ -10,6 +10,7 @@ use mir.Val.{SFits}
 use Rattle.arith.specs.Bytes as B
 use Rattle.arith.specs.Bytes.{Bytes}
 use Rattle.arith.specs.Wrap as W
+use Rattle.arith.proofs.bytes.Laws.{bytes-so}
 use Rattle.stand.specs.Edit as E
 use Rattle.stand.specs.Edit.{setCall}
 use Rattle.stand.specs.Fill as L
@@ -28,24 +29,27 @@ use Rattle.form.specs.Example.{oneBlock}
 use Rattle.form.specs.Form as Q
 use Rattle.ledger.specs.Calls as C
 use Rattle.ledger.specs.Calls.{Op, own}
-use Rattle.ledger.proofs.Quoted.{bytes-so}
-use Rattle.digests.specs.Digests.{AllTyped, OneOff}
-use Rattle.digests.specs.Example.{Example, Hidden, LoadedBlock, Seventeen, Single, along, at, block15, block16, cellsAlong, load, pair}
+use Rattle.digests.specs.Digests.{AllTyped, OneOff, Reached}
+use Rattle.digests.specs.Example.{Example, Hidden, LoadedBlock, Seventeen, Single, along, at, block15, block16, blocks, blocksAgain, cellsAlong, load, pair}
 use Rattle.digests.proofs.Digests.{digests}
 
--- a set that answers 1, after any calls on a fresh stand
-off : (n : ℕ) (os : List Op) (c : Cell) (v : ℕ) → S.opens (cellsAlong n) ≡ true → AllTyped (map own os) → v < 65536
-    → setCall (along n os) c v .answer ≡ gives 1 → OneOff (along n os) (setCall (along n os) c v .state) c
-off n os c v o t l e =
-    let k = digests .any-calls (cellsAlong n) (record { sheet = 0 }) [] os o origin-fits t in
-    subst (λ (s : State). OneOff s (setCall s c v .state) c) (k .stand-is)
-    (digests .set-off (k .by-calls) c v l (subst (λ (s : State). setCall s c v .answer ≡ gives 1) (sym (k .stand-is)) e) .1)
+-- any calls on a fresh stand
+reached : (n : ℕ) (os : List Op) → S.opens (cellsAlong n) ≡ true → AllTyped (map own os) → Reached (along n os)
+reached n os o t = digests .any-calls (cellsAlong n) (record { sheet = 0 }) [] os o origin-fits t
   where
     zero-fits : SFits w32 (pos 0)
     zero-fits = record { sfits = omega arith }
 
     origin-fits : S.Ranged (at 0)
     origin-fits = record { x = zero-fits; y = zero-fits; z = zero-fits }
+
+-- and after them a set that answers 1
+off : (n : ℕ) (os : List Op) (c : Cell) (v : ℕ) → S.opens (cellsAlong n) ≡ true → AllTyped (map own os) → v < 65536
+    → setCall (along n os) c v .answer ≡ gives 1 → OneOff (along n os) (setCall (along n os) c v .state) c
+off n os c v o t l e =
+    let k = reached n os o t in
+    subst (λ (s : State). OneOff s (setCall s c v .state) c) (k .stand-is)
+    (digests .set-off (k .by-calls) c v l (subst (λ (s : State). setCall s c v .answer ≡ gives 1) (sym (k .stand-is)) e) .1)
 
 single : Single
 unfolding S.sections S.product S.counted S.chunksIn S.chunksOn S.lastFits R.first R.answer T.freshState T.volumeOf T.freshStorage T.storageFits S.wellFormed S.good S.axisGood S.shapeOf S.opens E.fitting E.edited E.setDef E.put E.changed E.advanced E.solidAfter E.hashAfter E.toggled E.look S.slot S.slotAt S.distance S.over S.rest S.sectionAt S.withinAt H.termOf H.splitMix H.xorShift W.mul64 E.setCall E.setRefusal S.inside S.insideOn K.digestCall H.digestOf H.digestStart H.shapeWords H.foldWords H.foldWord C.given C.result C.edited C.leftBy C.step C.run
@@ -67,6 +71,12 @@ seventeen =
       digest-16 = refl;
       digest-both = refl;
       digest-again = refl;
+      reached = (
+        reached 17 block15 refl (omega arith, tt),
+        reached 17 blocks refl (omega arith, (omega arith, (omega arith, tt))),
+        reached 17 block16 refl (omega arith, tt),
+        reached 17 blocksAgain refl (omega arith, (omega arith, (omega arith, tt))),
+      );
       off-16 = o;
       off-15 = record { origin = refl; size = refl; there = p .there; differ = p .differ; else-same = p .else-same };
       off-again = record { origin = refl; size = refl; there = o .there; differ = λ e. o .differ (sym e); else-same = λ d i n. sym (o .else-same d i n) };

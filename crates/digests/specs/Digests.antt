@@ -31,7 +31,8 @@ abbrev pub AllTyped : List Call → Type 0
 AllTyped cs = Each (λ c. Typed (effectOf (c .op))) cs
 
 -- the first call opens or loads it, on storage with any contents, and is accepted; then come any calls, accepted or refused, sets, fills,
--- loads and all others of demand 3's lists, each lent what these allow (`Lent`): header and storage as the call before left them
+-- loads and all others of demand 3's lists, each lent what these allow (`Lent`): header and storage as the call before left them, or
+-- lists that 4 refuses; an opening or a load also other lists
 pub record ByCalls : Type 0 where
   pub start : Start
   pub calls : List Call
@@ -91,20 +92,20 @@ pub record Digests : Type 0 where
   pub digest-shows : (a b : ByCalls) (c : Cell) → OneOff (standOf a) (standOf b) c → Apart (digestAnswer (standOf a)) (digestAnswer (standOf b))
   -- ---- where no cell differs, nothing shows
 
-  -- a section with the same finish in each of its cells has the same hash
+  -- a section each of whose cells has the same finish in both stands has the same hash in both
   pub hash-same : (a b : ByCalls) (i : ℕ) → standOf a .volume .origin ≡ standOf b .volume .origin → standOf a .volume .size ≡ standOf b .volume .size
       → ((d : Cell) → inside (shape (standOf a)) d ≡ true → chunkOf (shape (standOf a)) d ≡ i
       → look (shape (standOf a)) (standOf a .cells) d ≡ look (shape (standOf b)) (standOf b .cells) d)
       → hashAnswer (standOf a) i ≡ hashAnswer (standOf b) i
-  -- so that of one block off no other section's hash differs
+  -- so where one block is off no other section's hash differs
   pub others-same : (a b : ByCalls) (c : Cell) → OneOff (standOf a) (standOf b) c → (i : ℕ) → (i ≡ chunkOf (shape (standOf a)) c → ⊥)
       → hashAnswer (standOf a) i ≡ hashAnswer (standOf b) i
-  -- and a stand with the same finish in each cell has the same digest, however it was filled
+  -- and stands with the same finish at each cell have the same digest, however they were filled
   pub digest-same : (a b : ByCalls) → Same (standOf a .volume) (standOf a .cells) (standOf b .volume) (standOf b .cells)
       → digestAnswer (standOf a) ≡ digestAnswer (standOf b)
   -- ---- a set that changes a cell
 
-  -- that is, answers 1, leads from a stand filled by calls to one that is one block off
+  -- a set that answers 1 leads from a stand filled by calls to one that is one block off
   pub set-off : (a : ByCalls) (c : Cell) (v : ℕ) → v < 65536 → setCall (standOf a) c v .answer ≡ gives 1
       → Reached (setCall (standOf a) c v .state) × OneOff (standOf a) (setCall (standOf a) c v .state) c
   -- so it changes the hash of its section and the digest

@@ -12,12 +12,13 @@ use Rattle.form.specs.Example.{oneBlock}
 use Rattle.form.specs.Keeping.{Same}
 use Rattle.ledger.specs.Calls.{Op}
 use Rattle.ledger.specs.Trestles.{cell}
-use Rattle.digests.specs.Digests.{OneOff, digestAnswer, freshAfter, hashAnswer}
+use Rattle.digests.specs.Digests.{OneOff, Reached, digestAnswer, freshAfter, hashAnswer}
 
--- n cells along x from 0 on, just opened, and after these calls
+-- n cells along x, from 0 on
 abbrev pub cellsAlong : ℕ → Shape
 cellsAlong n = record { origin = cell 0 0 0; size = pointOf n 1 1 }
 
+-- such a stand just opened, after these calls
 abbrev pub along : ℕ → List Op → State
 along n os = freshAfter (cellsAlong n) (record { sheet = 0 }) [] os
 
@@ -58,7 +59,7 @@ blocks = setAt 15 1 ∷ setAt 17 1 ∷ setAt 16 1 ∷ []
 abbrev pub block16 : List Op
 block16 = Op.fill (at 16) (at 99) 1 ∷ []
 
--- both again, in the other order and with a finish between
+-- both again, in the other order, and cell 15 by way of another finish
 abbrev pub blocksAgain : List Op
 blocksAgain = Op.fill (at 16) (at 99) 1 ∷ setAt 15 2 ∷ setAt 15 1 ∷ []
 
@@ -69,10 +70,13 @@ pub record Seventeen : Type 0 where
   pub digest-16 : digestAnswer (along 17 block16) ≡ gives 0x70db2fba27e12879
   pub digest-both : digestAnswer (along 17 blocks) ≡ gives 0x998667823bd449ae
   pub digest-again : digestAnswer (along 17 blocksAgain) ≡ gives 0x998667823bd449ae
+  -- all of them are filled by calls
+  pub reached : Reached (along 17 block15) × Reached (along 17 blocks) × Reached (along 17 block16) × Reached (along 17 blocksAgain)
   pub off-16 : OneOff (along 17 block15) (along 17 blocks) (at 16)
   pub off-15 : OneOff (along 17 block16) (along 17 blocksAgain) (at 15)
-  -- filled by other calls than its counterpart, and with the block that the counterpart has not
+  -- the two filled by different calls, the block at 16 in the first alone
   pub off-again : OneOff (along 17 blocksAgain) (along 17 block15) (at 16)
+  -- and alike, at different generations
   pub same-again : Same (along 17 blocks .volume) (along 17 blocks .cells) (along 17 blocksAgain .volume) (along 17 blocksAgain .cells)
 
 -- ---- two blocks off

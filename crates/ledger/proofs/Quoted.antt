@@ -1,11 +1,7 @@
 -- Document 01's example, the same stand loaded, and the sheet's refusals hold: worked out by evaluation.
 use mathlib.Core.Path.{_≡_, refl}
-use mathlib.Core.Bool.{Bool, true, _&&_}
-use mathlib.Core.List.{List, [], _∷_}
-use Prim.Native.Nat.{ℕ, zero, suc}
-use native.Mathlib.Omega.{arith}
-use borrow.Author.Tests.{ltb-true}
-use lib.Dec.{ltb}
+use mathlib.Core.List.{[], _∷_}
+use Prim.Native.Nat.{ℕ}
 use Rattle.arith.specs.Saturate.{saturate}
 use Rattle.arith.specs.Wrap as W
 use Rattle.stand.specs.Cells.{moved}
@@ -18,9 +14,9 @@ use Rattle.stand.specs.Refusal as R
 use Rattle.stand.specs.Shape as S
 use Rattle.stand.specs.Sides as I
 use Rattle.stand.specs.Storage as T
-use Rattle.stand.proofs.Tests.{both}
 use Rattle.arith.specs.Bytes as B
 use Rattle.arith.specs.Bytes.{Bytes}
+use Rattle.arith.proofs.bytes.Laws.{bytes-so}
 use Rattle.form.specs.Calls as Y
 use Rattle.form.specs.Entries as Z
 use Rattle.form.specs.Form as Q
@@ -50,15 +46,6 @@ printed k a b c d e f =
     }
 
 -- ---- the stand loaded
-
-abbrev allBytes : List ℕ → Bool
-allBytes [] = true
-allBytes (x ∷ xs) = ltb x 256 && allBytes xs
-
-pub bytes-so : (f : List ℕ) → allBytes f ≡ true → Bytes f
-bytes-so [] e i = omega arith
-bytes-so (x ∷ xs) e zero = ltb-true x 256 (both (ltb x 256) (allBytes xs) e .0)
-bytes-so (x ∷ xs) e (suc i) = bytes-so xs (both (ltb x 256) (allBytes xs) e .1) i
 
 loaded : (w : Bytes cubes) (k a b c d e f : ℕ) → Loaded w k a b c d e f
 unfolding O.openedShape O.sizesOf O.sizeOn S.sections S.product S.counted S.chunksIn S.chunksOn S.lastFits R.first R.answer T.freshState T.volumeOf T.freshStorage T.storageFits S.wellFormed S.good S.axisGood S.shapeOf S.opens E.fitting E.edited E.setDef E.put E.changed E.advanced E.solidAfter E.hashAfter E.toggled E.look S.slot S.slotAt S.distance S.over S.rest S.sectionAt S.withinAt S.cellFrom H.termOf H.splitMix H.xorShift W.mul64 E.setCall E.setRefusal S.inside S.insideOn L.fillCall L.fillRefusal L.fillDef L.setEach L.andThen L.boxCells L.solidCells L.planeCells L.rowCells L.boxOf L.spanning L.lowCell L.highCell L.lowZ L.highZ L.cellsIn L.belowSpot L.belowOn L.past M.largestSide M.sectionPart S.corner S.chunkPlace N.partPanels N.panelsTo N.sidePanels N.slicePanels N.boxesOf N.quadOf N.stepsOf M.sliceMask M.slotShown M.table M.cellIn M.added M.facing M.turned M.depthOf M.widthOf M.heightOf X.shown X.clears X.ahead I.normalAt I.firstAt I.secondAt I.stepAt I.stepOn I.wayAt moved saturate G.upto G.all G.full G.grow G.rep G.clearBox G.size G.alike G.boxAt G.cut G.cutTo G.total G.limits F.wiped K.faceSum K.sumTo near sharesFace gaps D.walk D.givenAt D.logged P.wantOf P.allPriced P.openFits P.refreshFits P.measureRefusal P.measuring P.openCall P.refreshCall P.totalsRefusal P.totalsCall rated payable hits dueOf todo centsOf rowOf measured slicePriced priced remake rowAt remeasure sums sane C.given C.result C.edited C.sheeted C.leftBy C.step C.run H.digestOf H.digestStart H.shapeWords H.foldWords H.foldWord O.tooMany O.lastInside S.spotAt B.shortAt B.wordAt B.doubleAt B.signedOf B.signedAt Y.isForm Y.loadRefusal Y.loaded Y.loadCall Z.insideAt Z.placed Z.mixed Z.digestWith Z.loadedStorage Q.headShape Q.hasHead Q.countIn Q.entryIn Q.entriesAt Q.entriesIn Q.goodIn Q.goodFrom Q.valid C.opened

@@ -4,7 +4,7 @@ use mathlib.Core.Bool.{Bool, true, false, cond}
 use mathlib.Core.List.{List}
 use Prim.Native.Nat.{ℕ, zero, suc, _+_, _*_, _/_, _%_, _^_, _<_, _≤_}
 use native.Mathlib.Omega.{arith}
-use borrow.Author.Tests.{eq-eqb, eqb-false, eqb-true, le-leb, lt-leb, ltb-false, ltb-true}
+use borrow.Author.Tests.{eq-eqb, eqb-false, eqb-true, ltb-false, ltb-true}
 use lib.Bits.{bitXor, xor-lt}
 use lib.Dec.{eqb, ltb}
 use lib.ListN.{List·getD-eq-default, getD, length, set}
@@ -13,7 +13,7 @@ use Rattle.arith.proofs.Xor.{xor-cancel, xor-cancel-l, xor-kept, xor-undo}
 use Rattle.stand.specs.Edit.{hashAfter, look, toggled}
 use Rattle.stand.specs.Hash.{digestOf, digestStart, foldWords, shapeWords, termOf}
 use Rattle.stand.specs.Read.{digestCall, entryCall}
-use Rattle.stand.specs.Refusal.{answer, first, gives, refused}
+use Rattle.stand.specs.Refusal.{first, gives, listRules, refused}
 use Rattle.stand.specs.Shape.{Shape, cellFrom, chunkOf, counted, inside, opens, sections, slot, spotAt}
 use Rattle.stand.specs.Sound.{Sound, termsOf}
 use Rattle.stand.specs.Storage.{State, shape, volumeOf}
@@ -22,9 +22,11 @@ use Rattle.stand.proofs.Edit.{fitting-lengths}
 use Rattle.stand.proofs.Hash.{Words, folds-append, folds-inj, folds-lt, term-inj, term-lt, term-some}
 use Rattle.stand.proofs.Kept.{Finishes}
 use Rattle.stand.proofs.Opened.{shape-words}
+use Rattle.stand.proofs.Read.{entry-given, entry-high}
+use Rattle.stand.proofs.Refusal.{accepted}
 use Rattle.stand.proofs.Shape.{chunk-lt, formed-opens, slot-chunk, slot-lt}
 use Rattle.stand.proofs.Slots.{slot-of-cell}
-use Rattle.stand.proofs.Sound.{terms-change}
+use Rattle.stand.proofs.Sound.{terms-change, terms-same}
 use Rattle.stand.proofs.Tests.{by-test}
 
 -- ---- a section's terms
@@ -43,12 +45,6 @@ after-inj h w old new l lo ln = by (eqb old 0) (eqb new 0) refl refl
         term-inj w w old new l l lo ln
         (xor-cancel-l h (termOf w old) (termOf w new) (xor-cancel (bitXor h (termOf w old)) (bitXor h (termOf w new)) (termOf w new) (e ∙ sym (xor-undo h (termOf w new))))) .1
 
--- they go by what its slots hold
-terms-same : (xs ys : List ℕ) (i n : ℕ) → n ≤ 4096 → ((k : ℕ) → k < 4096 → getD xs (i * 4096 + k) 0 ≡ getD ys (i * 4096 + k) 0) → termsOf xs i n ≡ termsOf ys i n
-unfolding termsOf
-terms-same xs ys i zero l h = refl
-terms-same xs ys i (suc n) l h = λ j. toggled n (h n l j) (terms-same xs ys i n (omega arith) h j)
-
 terms-lt : (xs : List ℕ) (i n : ℕ) → termsOf xs i n < 2 ^ 64
 unfolding termsOf toggled
 terms-lt xs i zero = omega arith
@@ -64,7 +60,7 @@ terms-inj : (xs ys : List ℕ) (j : ℕ) → j < length xs → getD xs j 0 < 655
     → termsOf xs (j / 4096) 4096 ≡ termsOf ys (j / 4096) 4096 → getD xs j 0 ≡ getD ys j 0
 terms-inj xs ys j l lx ly h e =
     after-inj (termsOf xs (j / 4096) 4096) (j % 4096) (getD xs j 0) (getD ys j 0) (omega arith) lx ly
-    (sym (terms-change xs j (getD ys j 0) l) ∙ terms-same (set xs j (getD ys j 0)) ys (j / 4096) 4096 (omega arith) (λ k lk. at (j / 4096 * 4096 + k)) ∙ sym e)
+    (sym (terms-change xs j (getD ys j 0) l) ∙ terms-same (set xs j (getD ys j 0)) ys (j / 4096) 4096 (λ k lk. at (j / 4096 * 4096 + k)) ∙ sym e)
   where
     at : (k : ℕ) → getD (set xs j (getD ys j 0)) k 0 ≡ getD ys k 0
     at k =
@@ -78,20 +74,21 @@ module _ (s : State) (q : Sound s) where
   hashes-length : length (s .hashes) ≡ sections (shape s)
   hashes-length = fitting-lengths s (q .fits) .hashes
 
-  pub hash-told : (i : ℕ) → i < sections (shape s) → entryCall (s .volume) (s .hashes) i ≡ gives (getD (s .hashes) i 0)
-  unfolding entryCall first answer
-  hash-told i l =
-      rw (q .formed, eq-eqb (length (s .hashes)) (sections (shape s) * 1) (omega (arith, hashes-length)), lt-leb (sections (shape s)) i l)
+  -- neither 3 nor 4
+  rules-pass : first (listRules 1 (s .volume) (length (s .hashes))) ≡ 0
+  unfolding first
+  rules-pass = rw (q .formed, eq-eqb (length (s .hashes)) (sections (shape s) * 1) (omega (arith, hashes-length)))
 
-  -- refused by 7 past the last section
+  pub hash-told : (i : ℕ) → i < sections (shape s) → entryCall (s .volume) (s .hashes) i ≡ gives (getD (s .hashes) i 0)
+  hash-told i l = sym (entry-given (s .volume) (s .hashes) i (sym rules-pass) refl (omega (arith, hashes-length)))
+
+  -- 7 past the last section
   pub hash-none : (i : ℕ) → sections (shape s) ≤ i → entryCall (s .volume) (s .hashes) i ≡ refused 7
-  unfolding entryCall first answer
-  hash-none i l =
-      rw (q .formed, eq-eqb (length (s .hashes)) (sections (shape s) * 1) (omega (arith, hashes-length)), le-leb (sections (shape s)) i l)
+  hash-none i l = sym (entry-high (s .volume) (s .hashes) i (sym rules-pass) refl (omega (arith, hashes-length)))
 
   pub digest-told : digestCall (s .volume) (s .hashes) ≡ gives (digestOf (s .volume) (s .hashes))
-  unfolding digestCall first answer
-  digest-told = rw (q .formed, eq-eqb (length (s .hashes)) (sections (shape s) * 1) (omega (arith, hashes-length)))
+  unfolding digestCall
+  digest-told = sym (accepted (digestOf (s .volume) (s .hashes)) rules-pass)
 
   hash-past : (i : ℕ) → sections (shape s) ≤ i → getD (s .hashes) i 0 ≡ 0
   hash-past i l = List·getD-eq-default (s .hashes) 0 {n = i} (omega (arith, hashes-length))
@@ -140,7 +137,7 @@ module _ (s t : State) (qs : Sound s) (qt : Sound t) (e : shape s ≡ shape t) w
       (λ u.
       let l = ltb-true i (sections (shape s)) u in
       qs .hash i l
-      ∙ terms-same (s .cells) (t .cells) i 4096 (omega arith) (λ k lk. slot-same (i * 4096 + k) (λ j. h (cellIn (i * 4096 + k)) j (section k lk)))
+      ∙ terms-same (s .cells) (t .cells) i 4096 (λ k lk. slot-same (i * 4096 + k) (λ j. h (cellIn (i * 4096 + k)) j (section k lk)))
       ∙ sym (qt .hash i (subst (λ (g : Shape). i < sections g) e l)))
       (λ u.
       let l = ltb-false i (sections (shape s)) u in

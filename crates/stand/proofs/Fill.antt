@@ -1,4 +1,4 @@
--- Laws of fills: what setting cells one after another keeps, the code's loops and tests, and that a sound stand stays so.
+-- Laws of fills: what setting cells one after another keeps, the code's loops and tests, and that a sound stand stays so and its finishes u16.
 use mathlib.Core.Path.{_≡_, refl, sym, ap, _∙_}
 use mathlib.Core.Bool.{true}
 use mathlib.Core.List.{List, [], _∷_, _++_, List·Memᴰ, List·Memᴰ·head, List·Memᴰ·tail}

@@ -1,4 +1,4 @@
--- Opening gives a sound stand, and changes keep it sound.
+-- Opening gives a sound stand, and changes keep it sound and its finishes u16.
 use mathlib.Core.Path.{_≡_, refl, sym, ap, _∙_}
 use mathlib.Core.Bool.{Bool, true, false, cond, false≢true}
 use mathlib.Core.List.{List, [], _∷_}

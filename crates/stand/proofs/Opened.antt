@@ -1,4 +1,4 @@
--- What 3 lets pass is what opening gives.
+-- What 3 lets pass is what opening gives, and the digest takes of it what its shape has.
 use mathlib.Core.Path.{_≡_, refl, sym, ap, _∙_}
 use mathlib.Core.Bool.{true}
 use Prim.Native.Nat.{ℕ, _≤_}

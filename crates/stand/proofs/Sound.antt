@@ -72,13 +72,11 @@ module _ (cells : List ℕ) (i v : ℕ) where
           strict : (n ≡ k → ⊥) → k < n
           strict q = omega arith
 
--- another section's terms stay
-terms-other : (cells : List ℕ) (i j v n : ℕ) → n ≤ 4096 → (j / 4096 ≡ i → ⊥) → termsOf (set cells j v) i n ≡ termsOf cells i n
+-- terms go by what the slots of the section hold
+pub terms-same : (xs ys : List ℕ) (i n : ℕ) → ((k : ℕ) → k < n → getD xs (i * 4096 + k) 0 ≡ getD ys (i * 4096 + k) 0) → termsOf xs i n ≡ termsOf ys i n
 unfolding termsOf
-terms-other cells i j v zero h l = refl
-terms-other cells i j v (suc n) h l =
-    ap (λ (x : ℕ). toggled n x (termsOf (set cells j v) i n)) (getD-set-other cells j (i * 4096 + n) v 0 (λ (e : i * 4096 + n ≡ j). l (omega arith)))
-    ∙ ap (toggled n (getD cells (i * 4096 + n) 0)) (terms-other cells i j v n (omega arith) l)
+terms-same xs ys i zero h = refl
+terms-same xs ys i (suc n) h = λ j. toggled n (h n (omega arith) j) (terms-same xs ys i n (λ k l. h k (omega arith)) j)
 
 -- a change of the cell at index j moves its section's terms as the hash moves
 pub terms-change : (cells : List ℕ) (j v : ℕ) → j < length cells → termsOf (set cells j v) (j / 4096) 4096 ≡ hashAfter (termsOf cells (j / 4096) 4096) (j % 4096) (getD cells j 0) v
@@ -87,8 +85,9 @@ terms-change cells j v l =
     subst (λ (m : ℕ). termsOf (set cells m v) (j / 4096) 4096 ≡ hashAfter (termsOf cells (j / 4096) 4096) (j % 4096) (getD cells m 0) v) e
     (terms-after cells (j / 4096) v (j % 4096) 4096 (omega arith) (omega arith))
 
+-- another section's stay
 pub terms-keep : (cells : List ℕ) (i j v : ℕ) → (j / 4096 ≡ i → ⊥) → termsOf (set cells j v) i 4096 ≡ termsOf cells i 4096
-terms-keep cells i j v l = terms-other cells i j v 4096 (omega arith) l
+terms-keep cells i j v l = terms-same (set cells j v) cells i 4096 (λ k lk. getD-set-other cells j (i * 4096 + k) v 0 (λ (e : i * 4096 + k ≡ j). l (omega arith)))
 
 -- ---- occupied cells after a change of one cell
 

@@ -25,7 +25,7 @@ pub struct Case {
 }
 
 impl Case {
-    /// Most stands have at most 64 cells, one in five up to 8 sections, one in a hundred up to 64.
+    /// Most stands have at most 64 cells, nearly one in five up to 8 sections, one in a hundred up to 64.
     pub fn make(seed: u64, number: u64) -> Self {
         let rng = &mut Rng::of(seed, 30, number);
         let tier = match number % 100 {

@@ -57,10 +57,10 @@ impl Check {
         agree(what, code, MODEL, due)
     }
 
-    /// A number is the one said by hand.
+    /// A number is the one worked out.
     pub fn said(&mut self, what: &str, got: Number, due: u64) -> Same {
         self.tally.compared(Kind::Said);
-        agree(what, got, "by hand", accepted(due))
+        agree(what, got, "worked out", accepted(due))
     }
 
     /// Both answers are accepted, and the same.

@@ -12,13 +12,13 @@ use crate::rng::Rng;
 
 /// What the second stand must hold, and what its calls are made from.
 pub struct Goal<'a> {
-    pub maker: &'a Maker,
+    maker: &'a Maker,
     /// The size that an opening is asked for: one below 1 counts as 1.
-    pub asked: Extent,
-    pub one: &'a Stand,
+    asked: Extent,
+    one: &'a Stand,
     /// The first stand's calls.
-    pub first: &'a [Step],
-    pub change: Change,
+    first: &'a [Step],
+    change: Change,
     /// By storage index.
     finishes: Vec<u16>,
 }

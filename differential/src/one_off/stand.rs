@@ -99,7 +99,7 @@ impl Stand {
                 self.volume = done.volume;
                 check.answer("fill", done.code, 0)
             }
-            _ => Ok(()),
+            _ => unreachable!("no other call is made"),
         }
     }
 

@@ -8,7 +8,7 @@ use std::fmt;
 use std::iter::repeat_with;
 
 /// The lists, by number.
-pub const LISTS: [&str; 5] = ["cells", "hashes", "versions", "log", "last changes"];
+const LISTS: [&str; 5] = ["cells", "hashes", "versions", "log", "last changes"];
 
 #[derive(Clone, Copy, PartialEq, Debug)]
 pub enum Step {

@@ -21,7 +21,7 @@ pub enum Kind {
 
 const NAMES: [&str; 9] = [
     "codes of calls",
-    "hashes and digests said by hand",
+    "hashes and digests worked out",
     "readings of all cells inside both stands",
     "sections of changed cells",
     "hashes of the changed cell's section: different",

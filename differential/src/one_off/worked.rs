@@ -1,4 +1,4 @@
-//! Worked pairs: hashes and digests said by hand, from document 01's term and digest.
+//! Worked pairs: hashes and digests worked out by a program of its own from document 01's term and digest.
 
 use super::check::{Change, Check, section_of};
 use super::stand::Stand;
@@ -103,7 +103,7 @@ pub const PAIRS: [Pair; 10] = [
             (65_535, &[MOST_AT_4095], 0x889d_7c4b_aa98_2676),
         ],
     },
-    // The last cell of four sections below 0.
+    // The last cell of four sections that begin below 0.
     Pair {
         origin: [-16, -17, -1],
         size: [17, 18, 2],
@@ -142,7 +142,7 @@ impl Pair {
             sides.push(stand);
         }
         let [one, two] = &mut sides[..] else {
-            return Ok(());
+            unreachable!("a pair has two sides");
         };
         agree("section", section_of(one.volume, cell), MODEL, self.section)?;
         let [from, to] = [0, 1].map(|side: usize| self.sides[side].0);

@@ -1,8 +1,8 @@
 -- Numbers and their bytes, each told by the other.
 use mathlib.Core.Path.{_≡_, refl, sym, ap, _∙_}
-use mathlib.Core.Bool.{Bool, true, false, cond}
+use mathlib.Core.Bool.{Bool, true, false, cond, _&&_, false≢true}
 use mathlib.Core.List.{List, [], _∷_, _++_, append-assoc}
-use Prim.Native.Nat.{ℕ, suc, _+_, _-_, _*_, _/_, _%_, _<_, _≤_, _^_}
+use Prim.Native.Nat.{ℕ, zero, suc, _+_, _-_, _*_, _/_, _%_, _<_, _≤_, _^_}
 use native.Mathlib.Omega.{arith}
 use borrow.Author.Tests.{le-ltb, lt-ltb, ltb-false, ltb-true}
 use lib.Dec.{ltb}
@@ -15,6 +15,21 @@ use mir.Syntax.{w32}
 use mir.Val.{SFits, ofZ, toZ}
 use Rattle.arith.specs.Level.{countOf, numberOf, patternOf}
 use Rattle.arith.specs.Bytes.{Bytes, byteAt, doubleAt, doubleBytes, shortAt, shortBytes, signedOf, wordAt, wordBytes}
+
+-- ---- a list that is written out
+
+abbrev pub allBytes : List ℕ → Bool
+allBytes [] = true
+allBytes (x ∷ xs) = ltb x 256 && allBytes xs
+
+pub bytes-so : (f : List ℕ) → allBytes f ≡ true → Bytes f
+bytes-so [] = λ e i. omega arith
+bytes-so (x ∷ xs) = by (ltb x 256) refl (bytes-so xs)
+  where
+    by : (t : Bool) → ltb x 256 ≡ t → (allBytes xs ≡ true → Bytes xs) → (t && allBytes xs) ≡ true → Bytes (x ∷ xs)
+    by true q h e zero = ltb-true x 256 q
+    by true q h e (suc i) = h e i
+    by false q h e i = absurd (false≢true e)
 
 -- ---- a number from its bytes
 
