@@ -1,7 +1,7 @@
 // The lines of standard input.
 use libc::STDIN_FILENO;
 
-#[derive(Drop)]
+#[derive(Clone, Copy)]
 pub(crate) enum Input {
     // A line, its end not counted.
     Line(usize),

@@ -1,4 +1,6 @@
 // Calls with the answers they must have, read as a text, made and compared (docs/CASES.md).
+#![tactic(auto)]
+
 mod args;
 mod call;
 mod cells;

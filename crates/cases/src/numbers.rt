@@ -5,7 +5,7 @@ use stand::volume::Extent;
 use stand::volume::hash::fold;
 
 // The first 64 numbers, how many there are, and the fold of all.
-#[derive(Drop)]
+#[derive(Clone, Copy)]
 pub(crate) struct Numbers {
     pub list: [u64; 64],
     pub count: usize,

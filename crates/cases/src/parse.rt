@@ -5,7 +5,7 @@ use crate::verb::verb_of;
 use crate::words::{Word, peek, word_at};
 
 // A verb of number 0 is no call: an empty line, or a comment alone.
-#[derive(Drop)]
+#[derive(Clone, Copy)]
 pub(crate) struct Parsed {
     pub verb: u64,
     pub args: Numbers,
@@ -15,7 +15,7 @@ pub(crate) struct Parsed {
 }
 
 // Numbers up to a '=' or the line's end, and where that stands.
-#[derive(Drop)]
+#[derive(Clone, Copy)]
 struct Read {
     numbers: Numbers,
     next: Word,

@@ -24,7 +24,7 @@ pub(crate) const FOLD: u64 = 18_446_744_069_414_584_318;
 const MOST: u64 = 18_446_744_073_709_551_615;
 
 // A number modulo 2^64; where its fault is not 0, none.
-#[derive(Drop)]
+#[derive(Clone, Copy)]
 pub(crate) struct Number {
     pub value: u64,
     pub fault: u64,

@@ -3,7 +3,7 @@ use exports::slices::SideSlice;
 use stand::Cell;
 use stand::volume::{Extent, Volume};
 
-#[derive(Drop)]
+#[derive(Clone, Copy)]
 pub(crate) struct Storage {
     pub cells: [u16; 16384],
     pub hashes: [u64; 12],
@@ -13,7 +13,7 @@ pub(crate) struct Storage {
 }
 
 // How many entries of each list a call is lent.
-#[derive(Drop)]
+#[derive(Clone, Copy)]
 pub(crate) struct Lent {
     pub cells: usize,
     pub hashes: usize,
@@ -28,14 +28,14 @@ pub(crate) struct Lent {
 }
 
 // Calls made, answers compared, and those that differ.
-#[derive(Drop)]
+#[derive(Clone, Copy)]
 pub(crate) struct Tally {
     pub calls: u64,
     pub compared: u64,
     pub differ: u64,
 }
 
-#[derive(Drop)]
+#[derive(Clone, Copy)]
 pub(crate) struct Stage {
     pub volume: Volume,
     pub storage: Storage,

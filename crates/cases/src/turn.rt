@@ -9,7 +9,7 @@ use crate::show::{fault, plain, text, which};
 use crate::stage::{Stage, Tally};
 
 // What a call leaves, and what it answers.
-#[derive(Drop)]
+#[derive(Clone, Copy)]
 pub(crate) struct Done {
     pub stage: Stage,
     pub answer: Numbers,

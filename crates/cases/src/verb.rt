@@ -4,7 +4,7 @@ use crate::read::{EXTRA, MISSING, TOO_LARGE, UNKNOWN, digits};
 use crate::words::{Word, find, peek};
 
 // The number of a verb, and what is wrong with it or its arguments.
-#[derive(Drop)]
+#[derive(Clone, Copy)]
 pub(crate) struct Verb {
     pub number: u64,
     pub fault: u64,

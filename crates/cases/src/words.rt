@@ -1,7 +1,7 @@
 // The words of a line: what stands between blanks, up to a word that starts with '#'.
 
 // Where a word stands: from its first byte to past its last. It is empty where the line has no more.
-#[derive(Drop)]
+#[derive(Clone, Copy)]
 pub(crate) struct Word {
     pub from: usize,
     pub to: usize,
@@ -56,7 +56,7 @@ fn same(a: &[u8], v: Word, b: &[u8], w: Word) -> bool {
 }
 
 // Two words that follow a name in a table; empty ones where the table lacks the name.
-#[derive(Drop)]
+#[derive(Clone, Copy)]
 pub(crate) struct Entry {
     pub first: Word,
     pub second: Word,

@@ -48,8 +48,8 @@ module _ (s t : State) (qs : Good s) (qt : Good t) where
         record {
           one = get_or s.hashes i 0;
           other = get_or t.hashes i 0;
-          one-is = D.hash-told s qs.sound i within;
-          other-is = D.hash-told t qt.sound i (subst (λ (g : Shape). i < sections g) same within);
+          one-is = D.hash_told s qs.sound i within;
+          other-is = D.hash_told t qt.sound i (subst (λ (g : Shape). i < sections g) same within);
           apart = D.hash-apart s t qs.sound qt.sound same qs.finishes qt.finishes c o.there o.differ o.else_same;
         }
 
@@ -58,8 +58,8 @@ module _ (s t : State) (qs : Good s) (qt : Good t) where
         record {
           one = H.digest_of s.volume s.hashes;
           other = H.digest_of t.volume t.hashes;
-          one-is = D.digest-told s qs.sound;
-          other-is = D.digest-told t qt.sound;
+          one-is = D.digest_told s qs.sound;
+          other-is = D.digest_told t qt.sound;
           apart = D.digest-apart s t qs.sound qt.sound same qs.finishes qt.finishes c o.there o.differ o.else_same;
         }
 
@@ -70,9 +70,9 @@ module _ (s t : State) (qs : Good s) (qt : Good t) where
       by-test (ltb i (sections (shape s)))
       (λ u.
       let l = ltb-true i (sections (shape s)) u in
-      D.hash-told s qs.sound i l
+      D.hash_told s qs.sound i l
       ∙ ap gives (D.hash-same s t qs.sound qt.sound e i h)
-      ∙ sym (D.hash-told t qt.sound i (subst (λ (g : Shape). i < sections g) e l)))
+      ∙ sym (D.hash_told t qt.sound i (subst (λ (g : Shape). i < sections g) e l)))
       (λ u.
       let l = ltb-false i (sections (shape s)) u in
       D.hash-none s qs.sound i l ∙ sym (D.hash-none t qt.sound i (subst (λ (g : Shape). sections g ≤ i) e l)))
@@ -84,7 +84,7 @@ module _ (s t : State) (qs : Good s) (qt : Good t) where
   digest-alike : Same s.volume s.cells t.volume t.cells → digest_answer s ≡ digest_answer t
   digest-alike o =
       let e = shape_same s.volume t.volume o.origin o.size in
-      D.digest-told s qs.sound ∙ ap gives (D.digest-same s t qs.sound qt.sound e o.cells) ∙ sym (D.digest-told t qt.sound)
+      D.digest_told s qs.sound ∙ ap gives (D.digest-same s t qs.sound qt.sound e o.cells) ∙ sym (D.digest_told t qt.sound)
 
 -- ---- such stands
 

@@ -1,1 +1,2 @@
 // What hashes and digests tell of two stands: definitions and theorems, and no code.
+#![tactic(auto)]

@@ -14,7 +14,7 @@ use stand::{Cell, Voxel};
 
 // A stand just opened; a header of zeros where it is refused.
 #[repr(C)]
-#[derive(Drop)]
+#[derive(Clone, Copy)]
 pub struct Opened {
     pub code: u32,
     pub volume: Volume,
@@ -22,7 +22,7 @@ pub struct Opened {
 
 // The cells changed, and the header after the edit.
 #[repr(C)]
-#[derive(Drop)]
+#[derive(Clone, Copy)]
 pub struct Edited {
     pub code: u32,
     pub changed: u64,

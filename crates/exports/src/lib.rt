@@ -1,4 +1,6 @@
 // The C interface: the calls of the stand, of its stored form, of its meshing and of the price sheet, with structs and numbers that C knows.
+#![tactic(auto)]
+
 pub mod edit;
 pub mod keep;
 pub mod lent;

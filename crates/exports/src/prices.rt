@@ -12,7 +12,7 @@ use stand::volume::Volume;
 
 // The mark after a call; where it is refused, the mark given.
 #[repr(C)]
-#[derive(Drop)]
+#[derive(Clone, Copy)]
 pub struct Marked {
     pub code: u32,
     pub mark: u64,
@@ -20,7 +20,7 @@ pub struct Marked {
 
 // The sums of a sheet's rows.
 #[repr(C)]
-#[derive(Drop)]
+#[derive(Clone, Copy)]
 pub struct Sums {
     pub code: u32,
     pub panels: u64,

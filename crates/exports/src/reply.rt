@@ -9,7 +9,7 @@ use stand::volume::answer::{BoolAnswer, CellAnswer, ExtentAnswer, NumberAnswer, 
 
 // A number.
 #[repr(C)]
-#[derive(Drop)]
+#[derive(Clone, Copy)]
 pub struct Number {
     pub code: u32,
     pub value: u64,
@@ -17,7 +17,7 @@ pub struct Number {
 
 // A cell.
 #[repr(C)]
-#[derive(Drop)]
+#[derive(Clone, Copy)]
 pub struct Place {
     pub code: u32,
     pub cell: Cell,
@@ -25,7 +25,7 @@ pub struct Place {
 
 // Three numbers along the axes.
 #[repr(C)]
-#[derive(Drop)]
+#[derive(Clone, Copy)]
 pub struct Span {
     pub code: u32,
     pub extent: Extent,

@@ -6,7 +6,7 @@ use mesh::Beyond;
 
 pub const BAD_ARGUMENT: u32 = 100;
 
-#[derive(Drop)]
+#[derive(Clone, Copy)]
 pub(crate) enum RuleAnswer {
     Is(Beyond),
     None,

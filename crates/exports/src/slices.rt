@@ -12,7 +12,7 @@ use stand::{Cell, Face, FaceAnswer};
 
 // A slice of a section: its lowest cell, its side's number, and its slots along first and second.
 #[repr(C)]
-#[derive(Drop)]
+#[derive(Clone, Copy)]
 pub struct SideSlice {
     pub cell: Cell,
     pub side: u32,
@@ -21,7 +21,7 @@ pub struct SideSlice {
 }
 
 #[repr(C)]
-#[derive(Drop)]
+#[derive(Clone, Copy)]
 pub struct Sliced {
     pub code: u32,
     pub slice: SideSlice,
@@ -29,7 +29,7 @@ pub struct Sliced {
 
 // A panel claimed, and the cursor to go on from; `given` is 0 where none is left.
 #[repr(C)]
-#[derive(Drop)]
+#[derive(Clone, Copy)]
 pub struct PanelGiven {
     pub code: u32,
     pub given: u32,

@@ -13,7 +13,7 @@ use stand::volume::solids::{SolidStep, Solids};
 
 // A changed chunk, and the generation to go on from; `given` is 0 at the end.
 #[repr(C)]
-#[derive(Drop)]
+#[derive(Clone, Copy)]
 pub struct ChunkGiven {
     pub code: u32,
     pub given: u32,
@@ -23,7 +23,7 @@ pub struct ChunkGiven {
 
 // An occupied cell, its finish, and the index to go on from; `given` is 0 at the end.
 #[repr(C)]
-#[derive(Drop)]
+#[derive(Clone, Copy)]
 pub struct SolidGiven {
     pub code: u32,
     pub given: u32,

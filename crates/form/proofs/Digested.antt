@@ -63,4 +63,4 @@ module _ (s : State) (q : Sound s) (small : Finishes s.cells) where
   digest_again = λ i. fold_words digest_start (sym (shape_words_lem s.volume q.formed) i ++ hashes_again i)
 
   pub digest_told : digest_call s.volume s.hashes ≡ gives (digest_with (shape_of s.volume) (entries_of (shape_of s.volume) s.cells))
-  digest_told = D.digest-told s q ∙ ap gives (sym digest_again)
+  digest_told = D.digest_told s q ∙ ap gives (sym digest_again)

@@ -1,5 +1,5 @@
 -- What store writes is a form that load takes.
-use mathlib.Core.Path.{◌≡◌, refl, sym, ap, ◌∙◌}
+use mathlib.Core.Path.{◌≡◌, refl, sym, ap, subst, ◌∙◌}
 use mathlib.Core.Bool.{true}
 use mathlib.Core.List.{List, [], ◌∷◌, ◌++◌, append_assoc, append-nil}
 use Prim.Native.Nat.{ℕ, suc, ◌+◌, ◌-◌, ◌*◌, ◌/◌, ◌%◌, ◌<◌, ◌^◌}
@@ -58,14 +58,14 @@ unfolding good_from entries_bytes
 own-good-all g [] p t k s o a = refl
 own-good-all g (e ∷ es) p t k s o a =
     let r : List ℕ = entries_bytes es ++ t in
-    let q : p ++ ((entry_bytes e ++ entries_bytes es) ++ t) ≡ p ++ (entry_bytes e ++ r) = ap (λ (l : List ℕ). p ++ l) (append_assoc (entry_bytes e) (entries_bytes es) t) in
+    let q : p ++ (entries_bytes (e ∷ es) ++ t) ≡ p ++ (entry_bytes e ++ r) = ap (λ (l : List ℕ). p ++ l) (append_assoc (entry_bytes e) (entries_bytes es) t) in
     let q2 : p ++ (entry_bytes e ++ r) ≡ (p ++ entry_bytes e) ++ r = sym (append_assoc p (entry_bytes e) r) in
     let n : length (p ++ entry_bytes e) ≡ length p + 7 = length-append p (entry_bytes e) ∙ ap (λ (k : ℕ). length p + k) (entry_length e) in
     let z : length p ≡ length p + 0 = omega arith in
     let ent : entry_in (p ++ (entry_bytes e ++ r)) (length p) ≡ e = ap (entry_in (p ++ (entry_bytes e ++ r))) z ∙ entry_past p (entry_bytes e ++ r) 0 ∙ entry_bytes_read e r s.0 in
     let rest : good_from g (p ++ (entry_bytes e ++ r)) (length p + 7) (suc e.slot) (length es) ≡ true =
     (λ i. good_from g (q2 i) (sym n i) (suc e.slot) (length es)) ∙ own-good-all g es (p ++ entry_bytes e) t (suc e.slot) s.1 o.1 a.1 in
-    rw (q, own-good g e p r s.0 o.0, ent, le-leb k e.slot a.0, rest)
+    subst (λ (f : List ℕ). good_from g f (length p) k (suc (length es)) ≡ true) (sym q) (rw (own-good g e p r s.0 o.0, ent, le-leb k e.slot a.0) rest)
 
 -- the digest is a word
 start-lt : digest_start < 2 ^ 64

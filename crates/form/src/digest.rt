@@ -13,7 +13,7 @@ use stand::volume::hash::{fold, fold_shape, splitmix64};
 use stand::volume::shape::counts;
 
 // The records of one section that come first: the record after them, and the section's hash.
-#[derive(Drop)]
+#[derive(Clone, Copy)]
 pub struct Run {
     pub next: usize,
     pub hash: u64,

@@ -1,4 +1,6 @@
 // A stand kept in a file (document 02, 2.2): its form written, checked and read back, with no storage but what is lent.
+#![tactic(auto)]
+
 mod check;
 mod digest;
 mod head;

@@ -7,7 +7,7 @@ use arith::bytes::{short, signed, word};
 use stand::Cell;
 use stand::volume::Extent;
 
-#[derive(Drop)]
+#[derive(Clone, Copy)]
 pub enum Decoded {
     Is(Call),
     // An unknown kind, or a short body.

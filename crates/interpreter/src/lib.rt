@@ -1,4 +1,6 @@
 // The calls of the trial program (document 01, 'Trial program'), one step at a time, over storage for at most four chunks that the caller lends.
+#![tactic(auto)]
+
 use sheet::{Marks, Row};
 use stand::Cell;
 use stand::volume::{Extent, Volume};
@@ -13,7 +15,7 @@ pub mod start;
 pub mod step;
 
 // A call, by document 01's kinds 1 to 6.
-#[derive(Drop)]
+#[derive(Clone, Copy)]
 pub enum Call {
     // Origin and size.
     Open(Cell, Extent),
@@ -28,7 +30,7 @@ pub enum Call {
 }
 
 // What is held beside the lists.
-#[derive(Drop)]
+#[derive(Clone, Copy)]
 pub struct Machine {
     pub volume: Volume,
     pub marks: Marks,
@@ -38,7 +40,7 @@ pub struct Machine {
 }
 
 // What is printed.
-#[derive(Drop)]
+#[derive(Clone, Copy)]
 pub enum Reply {
     Quiet,
     // The generation, and the sums of the sheet.
@@ -48,7 +50,7 @@ pub enum Reply {
 }
 
 // The reply to a call, and what is held after it.
-#[derive(Drop)]
+#[derive(Clone, Copy)]
 pub struct Turn {
     pub machine: Machine,
     pub reply: Reply,

@@ -8,7 +8,7 @@ use stand::volume::shape::Point;
 use stand::{Axes, Face, FaceAnswer, Step};
 
 // A side: its number, its axes, and whether its step goes up along the normal.
-#[derive(Drop)]
+#[derive(Clone, Copy)]
 pub struct Side {
     pub number: usize,
     pub axes: Axes,

@@ -4,7 +4,7 @@ ghost use Rattle.mesh.specs.Scan.{run_len, clear_run};
 ghost use Rattle.mesh.specs.Claims.{TakePre, TakePost, RowsPre, RowsPost, ClaimPre, ClaimPost, Blank, NextSeen};
 
 // What was claimed: its extents along first and second.
-#[derive(Drop)]
+#[derive(Clone, Copy)]
 pub(crate) struct Claim {
     pub run: usize,
     pub rows: usize,

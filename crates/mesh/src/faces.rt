@@ -15,7 +15,7 @@ use stand::volume::answer::NumberAnswer;
 use stand::volume::shape::cells_code;
 
 // What a meshing call answers: the panels written; that the list is too short for those there are (refusal 11); or refused.
-#[derive(Drop)]
+#[derive(Clone, Copy)]
 pub enum FacesAnswer {
     Is(u64),
     TooShort(u64),

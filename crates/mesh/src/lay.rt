@@ -19,7 +19,7 @@ use stand::volume::Volume;
 use stand::volume::shape::cells_code;
 
 // The slice laid, or refused.
-#[derive(Drop)]
+#[derive(Clone, Copy)]
 pub enum SliceAnswer {
     Is(Slice),
     Refused(u32),

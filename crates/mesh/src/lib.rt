@@ -1,4 +1,6 @@
 // Panels: the visible faces of a stand, merged into rectangles; ported from renew's crates/volume (mesh.rs).
+#![tactic(auto)]
+
 ghost use Rattle.std.specs.Prelude.{◌≡◌};
 ghost use Rattle.stand.specs.Answer.{number_answer};
 ghost use Rattle.mesh.specs.Quad.{merged_call};
@@ -21,7 +23,7 @@ mod stretch;
 mod tiles;
 
 // What lies outside the stand: document 01's outside rule.
-#[derive(Drop)]
+#[derive(Clone, Copy)]
 pub enum Beyond {
     // Outside hides a face.
     Solid,
@@ -30,7 +32,7 @@ pub enum Beyond {
 }
 
 // A rectangle of visible faces of one side and one finish: document 01's panel.
-#[derive(Drop)]
+#[derive(Clone, Copy)]
 pub struct Quad {
     // The lowest cell.
     pub cell: Cell,

@@ -15,7 +15,7 @@ use stand::volume::{CHUNK, Volume};
 const CELLS: usize = 4_096;
 
 // A section: the levels of its lowest cell, its cells along each axis that are inside, its place, and the chunks of the stand.
-#[derive(Drop)]
+#[derive(Clone, Copy)]
 pub struct Section {
     pub low: Point,
     pub count: Point,
@@ -24,7 +24,7 @@ pub struct Section {
 }
 
 // What lies one step on from a slice: slice t of section k; outside, where all is empty; or what hides.
-#[derive(Drop)]
+#[derive(Clone, Copy)]
 pub enum Next {
     At(usize, usize),
     Open,

@@ -4,7 +4,7 @@ ghost use Rattle.mesh.specs.Plane.{Laid, Filled, FilledRow, RowIn, RowTo, PlaneI
 ghost use Rattle.mesh.specs.Plane.{seen_row, seen_plane, cell_row, cell_plane};
 
 // How the cells of a slice lie within their section: steps along the three axes, and cells along first and second.
-#[derive(Drop)]
+#[derive(Clone, Copy)]
 pub struct Grid {
     pub normal: usize,
     pub first: usize,

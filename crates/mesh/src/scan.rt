@@ -11,7 +11,7 @@ use arith::level::from_level;
 use stand::Axes;
 
 // Where a slice lies: its side and that side's axes, the levels of its lowest cell along normal, first and second, and its slots along first and second.
-#[derive(Drop)]
+#[derive(Clone, Copy)]
 pub struct Frame {
     pub side: usize,
     pub axes: Axes,
@@ -23,7 +23,7 @@ pub struct Frame {
 }
 
 // The next slot of a row, and the panels so far.
-#[derive(Drop)]
+#[derive(Clone, Copy)]
 struct Turn {
     next: usize,
     count: usize,

@@ -15,7 +15,7 @@ use stand::volume::shape::{Point, levels};
 use stand::{Cell, Face, Voxel};
 
 // A slice: its lowest cell, its side, and its slots along first and second.
-#[derive(Drop)]
+#[derive(Clone, Copy)]
 pub struct Slice {
     pub cell: Cell,
     pub face: Face,
@@ -24,7 +24,7 @@ pub struct Slice {
 }
 
 // A panel and the next cursor; none where only 0 is left, or the mask is shorter than the slice.
-#[derive(Drop)]
+#[derive(Clone, Copy)]
 pub enum Claimed {
     Quad(Quad, usize),
     None,

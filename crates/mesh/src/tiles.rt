@@ -13,7 +13,7 @@ use stand::volume::shape::{Point, counts, levels};
 
 // The levels of its lowest cell, its cells along each axis, the place of its lowest section, its sections along each axis,
 // and the chunks of the stand.
-#[derive(Drop)]
+#[derive(Clone, Copy)]
 pub struct Part {
     pub low: Point,
     pub count: Point,

@@ -1,5 +1,5 @@
 // What is wrong with a line.
-#[derive(Drop)]
+#[derive(Clone, Copy)]
 pub(crate) enum Fault {
     UnknownWord,
     MissingNumber,

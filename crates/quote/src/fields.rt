@@ -10,7 +10,7 @@ use stand::Cell;
 use stand::volume::Extent;
 
 // A cell, and the index past its words.
-#[derive(Drop)]
+#[derive(Clone, Copy)]
 pub(crate) enum Corner {
     Is(Cell, usize),
     Bad(Fault),

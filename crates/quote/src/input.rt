@@ -4,7 +4,7 @@ ghost use Rattle.quote.specs.Input.{last_line, within};
 
 use libc::STDIN_FILENO;
 
-#[derive(Drop)]
+#[derive(Clone, Copy)]
 pub(crate) enum Input {
     // A line, its end not counted.
     Line(usize),

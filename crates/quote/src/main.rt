@@ -1,4 +1,6 @@
 // The trial program for people: calls as lines of words on standard input, price lines and refusals on standard output.
+#![tactic(auto)]
+
 use interpreter::Machine;
 use interpreter::start::{no_rates, start};
 use turn::turn;

@@ -7,21 +7,21 @@ use crate::words::peek;
 use arith::level::from_level;
 
 // What a word of digits says, held to 2^32, which no place of a call takes.
-#[derive(Drop)]
+#[derive(Clone, Copy)]
 pub(crate) enum Digits {
     Is(u64),
     Bad,
 }
 
 // A number, and the index past its word.
-#[derive(Drop)]
+#[derive(Clone, Copy)]
 pub(crate) enum Amount {
     Is(u64, usize),
     Bad(Fault),
 }
 
 // The same of a signed one.
-#[derive(Drop)]
+#[derive(Clone, Copy)]
 pub(crate) enum Coordinate {
     Is(i32, usize),
     Bad(Fault),

@@ -9,7 +9,7 @@ use crate::verb::{Verb, verb_of};
 use crate::words::word_at;
 use interpreter::Call;
 
-#[derive(Drop)]
+#[derive(Clone, Copy)]
 pub(crate) enum Parsed {
     // An empty line, or a comment alone.
     Nothing,

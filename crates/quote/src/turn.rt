@@ -6,7 +6,7 @@ use interpreter::Machine;
 use interpreter::run::run;
 
 // What is held after a line, and whether the text is over.
-#[derive(Drop)]
+#[derive(Clone, Copy)]
 pub(crate) struct Taken {
     pub machine: Machine,
     pub over: bool,

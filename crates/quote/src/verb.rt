@@ -4,7 +4,7 @@ ghost use Rattle.quote.specs.Verb.{verb_of};
 
 use crate::words::is_word;
 
-#[derive(Drop)]
+#[derive(Clone, Copy)]
 pub(crate) enum Verb {
     Open,
     Set,

@@ -3,7 +3,7 @@ ghost use Rattle.std.specs.Prelude.{◌≡◌, get_or};
 ghost use Rattle.quote.specs.Words.{is_blank, is_end, skip, ending, word_at, spells};
 
 // Where a word stands: from its first byte to past its last. It is empty where the line has no more.
-#[derive(Drop)]
+#[derive(Clone, Copy)]
 pub(crate) struct Word {
     pub from: usize,
     pub to: usize,

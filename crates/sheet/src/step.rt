@@ -9,7 +9,7 @@ use stand::volume::Volume;
 use stand::volume::shape::{Point, counts};
 
 // A chunk along an axis: its place, the chunks there, and how far apart the indices of neighbours are.
-#[derive(Drop)]
+#[derive(Clone, Copy)]
 pub struct Line {
     pub place: u64,
     pub count: u64,

@@ -1,5 +1,5 @@
 -- What a fill does to each cell: document 02, 2.1.
-use Rattle.std.proofs.Common.{◌≡◌, ℕ, Bool, true, false, cond, eqb, ◌≢◌, List, ◌∷◌, length, get_or, pos, sym, refl, ap, ◌∙◌, eqb-true}
+use Rattle.std.proofs.Common.{◌≡◌, ℕ, Bool, true, false, cond, eqb, ◌≢◌, List, [], ◌∷◌, length, get_or, pos, sym, refl, ap, ◌∙◌, eqb-true}
 use mathlib.Core.Bool.{false≢true}
 use mathlib.Core.HLevel.{⊥_prop}
 use mathlib.Core.List.{Memᴰ, eq-nil_iff_forall_not-mem}
@@ -51,6 +51,7 @@ module _ (g : Shape) (v : ℕ) where
   -- each of them has the finish afterwards
   each_set : (c : Cell) → inside g c ≡ true → (cs : List Cell) → ((d : Cell) → Memᴰ d cs → inside g d ≡ true) → Memᴰ c cs → (e : Edited) → Settled g e.state → look g (set_each e cs v).state.cells c ≡ v
   unfolding set_each and_then
+  each_set c i [] h m e q = elim m [ ]
   each_set c i (d ∷ cs) h (Memᴰ.head p) e q =
       (each_keeps (λ (s : State). Settled g s × (look g s.cells c ≡ v)) v cs
       (λ s f m r. (set_settled s f r.0, set_stays s f r.0 (h f (Memᴰ.tail m)) c i r.1))

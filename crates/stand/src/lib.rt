@@ -1,4 +1,6 @@
 // A stand of coated cubes, ported from renew's crates/volume (lib.rs and volume.rs).
+#![tactic(auto)]
+
 ghost use Rattle.std.specs.Prelude.{◌≡◌, ◌<◌};
 ghost use Rattle.stand.specs.Cells.{is_empty, cell_of, moved};
 ghost use Rattle.stand.specs.Sides.{side_number, step_at, axes_at, face_answer, face_at};
@@ -8,7 +10,7 @@ use arith::saturate::saturating_add_i32;
 pub mod volume;
 
 // What a cell is made of: document 01's finish. 0 is empty.
-#[derive(Drop)]
+#[derive(Clone, Copy)]
 pub struct Voxel(pub u16);
 
 impl Voxel {
@@ -25,7 +27,7 @@ impl Voxel {
 
 // A cell's address.
 #[repr(C)]
-#[derive(Drop)]
+#[derive(Clone, Copy)]
 pub struct Cell {
     // East.
     pub x: i32,
@@ -55,7 +57,7 @@ impl Cell {
 }
 
 // A side of a cell.
-#[derive(Drop)]
+#[derive(Clone, Copy)]
 pub enum Face {
     // Toward +x.
     East,
@@ -72,7 +74,7 @@ pub enum Face {
 }
 
 // Whole steps along the three axes.
-#[derive(Drop)]
+#[derive(Clone, Copy)]
 pub struct Step {
     pub x: i32,
     pub y: i32,
@@ -80,14 +82,14 @@ pub struct Step {
 }
 
 // The axes of a side, 0 for x to 2 for z: its normal, and the first and second axis of its plane.
-#[derive(Drop)]
+#[derive(Clone, Copy)]
 pub struct Axes {
     pub normal: usize,
     pub first: usize,
     pub second: usize,
 }
 
-#[derive(Drop)]
+#[derive(Clone, Copy)]
 pub enum FaceAnswer {
     Is(Face),
     None,

@@ -25,7 +25,7 @@ pub const MAX_CHUNKS: u64 = 65_536;
 
 // Three numbers along the axes: a size in cells, or a count of chunks.
 #[repr(C)]
-#[derive(Drop)]
+#[derive(Clone, Copy)]
 pub struct Extent {
     pub x: i32,
     pub y: i32,
@@ -34,7 +34,7 @@ pub struct Extent {
 
 // Document 01's header of a stand.
 #[repr(C)]
-#[derive(Drop)]
+#[derive(Clone, Copy)]
 pub struct Volume {
     // The lowest cell.
     pub origin: Cell,

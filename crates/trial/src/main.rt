@@ -1,4 +1,6 @@
 // Document 01's trial program: calls as bytes on standard input, price lines and refusals on standard output.
+#![tactic(auto)]
+
 use interpreter::Machine;
 use interpreter::start::{no_rates, start};
 

@@ -10,7 +10,7 @@ use interpreter::{Machine, Reply};
 use libc::{STDIN_FILENO, STDOUT_FILENO};
 
 // What is held after a call, and whether the script is over.
-#[derive(Drop)]
+#[derive(Clone, Copy)]
 pub(crate) struct Taken {
     pub machine: Machine,
     pub over: bool,

@@ -2,43 +2,43 @@
 use crate::volume::{Extent, Volume};
 use crate::{Cell, Voxel};
 
-#[derive(Drop)]
+#[derive(Clone, Copy)]
 pub enum CellAnswer {
     Is(Cell),
     Refused(u32),
 }
 
-#[derive(Drop)]
+#[derive(Clone, Copy)]
 pub enum ExtentAnswer {
     Is(Extent),
     Refused(u32),
 }
 
-#[derive(Drop)]
+#[derive(Clone, Copy)]
 pub enum NumberAnswer {
     Is(u64),
     Refused(u32),
 }
 
-#[derive(Drop)]
+#[derive(Clone, Copy)]
 pub enum BoolAnswer {
     Is(bool),
     Refused(u32),
 }
 
-#[derive(Drop)]
+#[derive(Clone, Copy)]
 pub enum VoxelAnswer {
     Is(Voxel),
     Refused(u32),
 }
 
-#[derive(Drop)]
+#[derive(Clone, Copy)]
 pub enum VolumeAnswer {
     Is(Volume),
     Refused(u32),
 }
 
-#[derive(Drop)]
+#[derive(Clone, Copy)]
 pub enum SetAnswer {
     Changed,
     Unchanged,
@@ -46,14 +46,14 @@ pub enum SetAnswer {
 }
 
 // The answer of a set, and the header after it.
-#[derive(Drop)]
+#[derive(Clone, Copy)]
 pub struct SetDone {
     pub answer: SetAnswer,
     pub volume: Volume,
 }
 
 // The answer of a fill, the cells changed, and the header after it.
-#[derive(Drop)]
+#[derive(Clone, Copy)]
 pub struct FillDone {
     pub answer: NumberAnswer,
     pub volume: Volume,

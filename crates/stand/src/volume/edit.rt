@@ -76,7 +76,7 @@ fn store(
 }
 
 // How many cells an edit changed, and the header after it.
-#[derive(Drop)]
+#[derive(Clone, Copy)]
 pub(crate) struct Edit {
     pub count: u64,
     pub volume: Volume,

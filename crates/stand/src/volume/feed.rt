@@ -9,7 +9,7 @@ use crate::volume::answer::NumberAnswer;
 use crate::volume::shape::{chunk_total, is_well_formed};
 
 // One step of the walk over changed chunks: the chunk, and the generation that gave it.
-#[derive(Drop)]
+#[derive(Clone, Copy)]
 pub enum ChunkStep {
     Chunk(u64, u64),
     End,

@@ -14,7 +14,7 @@ use crate::volume::storage::storage_code;
 use crate::{Cell, Voxel};
 
 // One axis of a region.
-#[derive(Drop)]
+#[derive(Clone, Copy)]
 pub(crate) struct Span {
     pub low: u64,
     pub count: u64,

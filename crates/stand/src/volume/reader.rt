@@ -8,7 +8,7 @@ use crate::volume::answer::NumberAnswer;
 use crate::volume::feed::{ChunkStep, feed_code, next_after, put_given};
 
 // The two lent lists, and the generation to go on from.
-#[derive(Drop)]
+#[derive(Clone, Copy)]
 pub struct ChangedChunks<'a, 'b> {
     pub log: &'a [u32],
     pub last: &'b [u64],
@@ -16,7 +16,7 @@ pub struct ChangedChunks<'a, 'b> {
 }
 
 // What a step gives, and the reader moved on: where the step gives no chunk, the reader stays where it stood.
-#[derive(Drop)]
+#[derive(Clone, Copy)]
 pub struct Stepped<'a, 'b> {
     pub step: ChunkStep,
     pub reader: ChangedChunks<'a, 'b>,

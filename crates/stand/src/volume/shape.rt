@@ -8,7 +8,7 @@ use crate::volume::{CHUNK, CHUNK_CELLS, Extent, MAX_CHUNKS, Volume};
 use arith::level::{count, level};
 
 // Three numbers along the axes: sizes, chunk counts, distances from the origin, or a chunk's place.
-#[derive(Drop)]
+#[derive(Clone, Copy)]
 pub struct Point {
     pub x: u64,
     pub y: u64,
@@ -16,35 +16,35 @@ pub struct Point {
 }
 
 // A region: where it starts, as distances from the origin, and its cells along each axis, which may be none.
-#[derive(Drop)]
+#[derive(Clone, Copy)]
 pub struct Region {
     pub low: Point,
     pub count: Point,
 }
 
 // The common part of a box and a stand, where there is one.
-#[derive(Drop)]
+#[derive(Clone, Copy)]
 pub enum Common {
     Is(Region),
     None,
 }
 
 // A distance from the origin along one axis.
-#[derive(Drop)]
+#[derive(Clone, Copy)]
 pub enum Along {
     At(u64),
     Outside,
 }
 
 // The distances of a cell from the origin.
-#[derive(Drop)]
+#[derive(Clone, Copy)]
 pub enum Spot {
     At(Point),
     Outside,
 }
 
 // Where a cell is stored.
-#[derive(Drop)]
+#[derive(Clone, Copy)]
 pub enum Place {
     At(usize),
     Outside,

@@ -8,13 +8,13 @@ use crate::volume::{CHUNK, CHUNK_CELLS, Volume};
 use crate::{Cell, Voxel};
 
 // Where a walk over occupied cells stands: the next storage index.
-#[derive(Drop)]
+#[derive(Clone, Copy)]
 pub struct Solids {
     pub next: usize,
 }
 
 // One step of the walk: a cell, what it holds, and where to go on.
-#[derive(Drop)]
+#[derive(Clone, Copy)]
 pub enum SolidStep {
     Cell(Cell, Voxel, Solids),
     End,
