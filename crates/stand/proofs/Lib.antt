@@ -8,7 +8,6 @@ pub mod Feed
 pub mod Fill
 pub mod Formed
 pub mod Hash
-pub mod Held
 pub mod Kept
 pub mod Levels
 pub mod Misses
