@@ -1,5 +1,5 @@
 -- Setting a cell: document 01, 'The stand' and refusals 3 to 6.
-use Rattle.std.specs.Prelude.{◌≡◌, ℕ, zero, suc, ◌+◌, ◌-◌, ◌/◌, ◌%◌, ◌^◌, ◌<◌, ◌≤◌, Bool, cond, not, ◌&&◌, List, [], ◌∷◌, length, set, ◌==◌, bit_xor, slice_index, slice_set}
+use Rattle.std.specs.Prelude.{◌≡◌, ℕ, zero, suc, ◌+◌, ◌-◌, ◌/◌, ◌%◌, ◌^◌, ◌<◌, ◌≤◌, Bool, cond, not, ◌&&◌, List, [], ◌∷◌, length, ◌==◌, bit_xor, slice_index, slice_set}
 use Rattle.stand.specs.Cells.{is_empty}
 use Rattle.stand.specs.Refusal.{◌⇒◌, first, gives, refused}
 use Rattle.stand.specs.Shape.{Shape, inside, max_chunks, sections, slot, well_formed}

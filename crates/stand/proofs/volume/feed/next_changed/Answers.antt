@@ -1,4 +1,4 @@
-use Rattle.std.proofs.Common.{◌-◌, sym, refl, ap, ◌∙◌, mod-lt, arith, rules}
+use Rattle.std.proofs.Common.{sym, refl, ap, ◌∙◌, mod-lt, arith, rules}
 use Rattle.stand.specs.Feed.{logged}
 use Rattle.stand.specs.Refusal.{gives}
 use Rattle.stand.proofs.Feed.{found, passed, ended}

@@ -1,4 +1,4 @@
-use Rattle.std.proofs.Common.{◌-◌, sym, refl, ap, ◌∙◌, arith}
+use Rattle.std.proofs.Common.{sym, refl, ap, ◌∙◌, arith}
 use Rattle.stand.specs.Storage.{Lengths}
 use Rattle.stand.proofs.Parts.{rows}
 use Rattle.stand.proofs.Fill.{each-one, fill-all, fill-count, fill-lengths, fill_more, fill-next, fill_none, sizes_few}

@@ -1,4 +1,4 @@
-use Rattle.std.proofs.Common.{◌≡◌, ◌-◌, ◌<◌, length, refl, add-one, arith, drop-cons}
+use Rattle.std.proofs.Common.{◌≡◌, ◌<◌, length, refl, add-one, arith, drop-cons}
 use lib.Seq.{drop-length}
 use Rattle.stand.specs.Hash.{fold_words}
 use Rattle.stand.proofs.volume.hash.fold_hashes.Goals as goal

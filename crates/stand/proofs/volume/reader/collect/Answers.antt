@@ -1,5 +1,5 @@
 -- A turn's record says where the walk stands (`UnderWay` of the laws), and its variant is how many generations are left.
-use Rattle.std.proofs.Common.{◌≡◌, true, List, ℕ, sym, refl, ap, ◌∙◌, subst, arith}
+use Rattle.std.proofs.Common.{◌≡◌, true, List, ℕ, sym, ap, ◌∙◌, subst, arith}
 use Rattle.stand.specs.Feed.{chunk_step, changed_step}
 use Rattle.stand.proofs.Walking.{GoesOn, UnderWay, ends_there, goes_on, sets-out}
 use Rattle.stand.proofs.volume.reader.collect.Goals as goal

@@ -1,4 +1,4 @@
-use Rattle.std.proofs.Common.{◌-◌, sym, refl, ◌∙◌}
+use Rattle.std.proofs.Common.{sym, refl, ◌∙◌}
 use Rattle.stand.proofs.Solids.{here, onward, past}
 use Rattle.stand.proofs.volume.solids.next_solid.Goals as goal
 

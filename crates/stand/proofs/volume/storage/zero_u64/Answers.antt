@@ -1,4 +1,3 @@
-use Rattle.std.proofs.Common.{◌-◌}
 use Rattle.stand.proofs.Storage.{zeroed_none, zeroed_more, zeroed_all}
 use Rattle.stand.proofs.volume.storage.zero_u64.Goals as goal
 
