@@ -1,5 +1,4 @@
 use mathlib.Core.Path.{sym, ◌∙◌}
-use Prim.Native.Nat.{◌-◌}
 use native.Mathlib.Omega.{arith}
 use Rattle.mesh.proofs.Claims.{rows_start, rows-length, rows_more, rows_taken}
 use Rattle.mesh.proofs.claim.take_rows.Goals as goal

@@ -1,4 +1,3 @@
-use Prim.Native.Nat.{◌-◌}
 use native.Mathlib.Omega.{arith}
 use mathlib.Core.Path.{◌≡◌}
 use Rattle.mesh.proofs.Laid.{filled_none, filled_row, row_in, row_to}
@@ -26,7 +25,12 @@ pub overflow_add-beside : goal.overflow_add-beside
 overflow_add-beside c = let t = c.loop-v-test.true in omega (arith, c.requires.plane_in.start c.loop-v.v t)
 
 pub fill_row-row-requires : goal.fill_row-row-requires
-fill_row-row-requires c = let t = c.loop-v-test.true in record { row_to = row_to c.requires.plane_to c.loop-v.v t c.loop-v.invariant.1.mask.same; row_in = row_in c.requires.plane_in c.loop-v.v t; step_bound = c.requires.first_bound }
+fill_row-row-requires c =
+    let t = c.loop-v-test.true in record {
+      row_to = row_to c.requires.plane_to c.loop-v.v t c.loop-v.invariant.1.mask.same;
+      row_in = row_in c.requires.plane_in c.loop-v.v t;
+      step_bound = c.requires.first_bound;
+    }
 
 pub loop-v-preserved : goal.loop-v-preserved
 loop-v-preserved c = (omega arith, filled_row c.requires.plane_to.mask.apart c.loop-v.invariant.1 c.fill_row-row.ensures)

@@ -1,4 +1,4 @@
-use Prim.Native.Nat.{◌+◌, ◌*◌, ◌-◌}
+use Prim.Native.Nat.{◌+◌, ◌*◌}
 use native.Mathlib.Omega.{arith}
 use native.Mathlib.Nat.{mul-one, zero-add}
 use mathlib.Core.Path.{◌≡◌, sym, ap, ◌∙◌}
@@ -39,7 +39,10 @@ loop-u-preserved c =
     let a = get_or here i 0 in
     let e : bit_and a c.if-b-eq0.keep ≡ seen_at here next (c.args.at + c.loop-u.u * 1) (c.args.beside + c.loop-u.u * 1) =
     rw mul-one
-    ((elim c.if-b-eq0.branch [ then-b-eq0 w ↦ ap (bit_and a) w.keep-is ∙ and_all a (c.shared_slice_known-1.given i).fits ∙ sym (seen here next i j w.if-b-eq0.true) | else-b-eq0 w ↦ ap (bit_and a) w.keep-is ∙ and_zero_r a ∙ sym (unseen here next i j w.if-b-eq0.false) ]))
+    (elim c.if-b-eq0.branch [
+      | then-b-eq0 w ↦ ap (bit_and a) w.keep-is ∙ and_all a (c.type_inv.here i).fits ∙ sym (seen here next i j w.if-b-eq0.true)
+      | else-b-eq0 w ↦ ap (bit_and a) w.keep-is ∙ and_zero_r a ∙ sym (unseen here next i j w.if-b-eq0.false)
+    ])
     in
     (omega arith, laid-slot _ e (sym (zero-add _)) c.loop-u.invariant.1 (omega (arith, c.requires.row_to.mask)))
 

@@ -1,4 +1,4 @@
-use Prim.Native.Nat.{ℕ, ◌+◌, ◌*◌, ◌-◌}
+use Prim.Native.Nat.{ℕ, ◌+◌, ◌*◌}
 use native.Mathlib.Nat.{suc-mul}
 use native.Mathlib.Omega.{arith}
 use mathlib.Core.Path.{◌≡◌, sym, ap, ◌∙◌}
@@ -43,7 +43,10 @@ loop-u-preserved c =
     let next = c.args.next.now in
     let a = get_or here i 0 in
     let e : bit_and a c.if-b-eq0.keep ≡ seen_at here next i j =
-    (elim c.if-b-eq0.branch [ then-b-eq0 w ↦ ap (bit_and a) w.keep-is ∙ and_all a (c.shared_slice_known-1.given i).fits ∙ sym (seen here next i j w.if-b-eq0.true) | else-b-eq0 w ↦ ap (bit_and a) w.keep-is ∙ and_zero_r a ∙ sym (unseen here next i j w.if-b-eq0.false) ])
+    elim c.if-b-eq0.branch [
+      | then-b-eq0 w ↦ ap (bit_and a) w.keep-is ∙ and_all a (c.type_inv.here i).fits ∙ sym (seen here next i j w.if-b-eq0.true)
+      | else-b-eq0 w ↦ ap (bit_and a) w.keep-is ∙ and_zero_r a ∙ sym (unseen here next i j w.if-b-eq0.false)
+    ]
     in
     let f = e ∙ ap (λ (x : ℕ). seen_at here next x j) c.loop-u.invariant.2 ∙ ap (seen_at here next (c.args.at + c.loop-u.u * c.args.step)) c.loop-u.invariant.3 in (
       omega arith,

@@ -1,5 +1,5 @@
 use mathlib.Core.Path.{◌≡◌, refl, subst, ◌∙◌}
-use Prim.Native.Nat.{ℕ, ◌-◌}
+use Prim.Native.Nat.{ℕ}
 use native.Mathlib.Omega.{arith}
 use Rattle.mesh.specs.Frame.{Wrote}
 use Rattle.mesh.specs.Scan.{fresh, rows_to, scan}
@@ -22,13 +22,16 @@ pub scan_row-n-requires : goal.scan_row-n-requires
 scan_row-n-requires c =
     let p = c.requires in
     let l = c.loop-v in
-    let t = c.loop-v-test.true in record { row_pre = record {
+    let t = c.loop-v-test.true in record {
+      row_pre = record {
         lies = p.lies;
         whole = omega (arith, p.whole, l.invariant.2);
         second = t;
         here = refl;
         few = omega (arith, p.few, p.whole, c.well_formed.0.1, l.invariant.1.total, rows_few c.args.f.width c.args.f.height (fresh c.args.mask.now) l.v, row_fits c.args.f.width c.args.f.height l.v t);
-      }; seen_len = l.invariant.4 }
+      };
+      seen_len = l.invariant.4;
+    }
 
 pub loop-v-preserved : goal.loop-v-preserved
 loop-v-preserved c =

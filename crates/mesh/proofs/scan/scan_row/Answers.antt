@@ -1,5 +1,5 @@
 use mathlib.Core.Path.{◌≡◌, refl, subst}
-use Prim.Native.Nat.{ℕ, ◌-◌}
+use Prim.Native.Nat.{ℕ}
 use native.Mathlib.Omega.{arith}
 use Rattle.mesh.specs.Frame.{Wrote}
 use Rattle.mesh.specs.Scan.{fresh, row_to}
@@ -35,11 +35,14 @@ mid c =
 pub list_seen-requires : goal.list_seen-requires
 list_seen-requires c =
     let l = c.loop-u in
-    let e = c.stretch_end-to.ensures in record { seen_len = l.invariant.sixteen; stretch_in = record {
+    let e = c.stretch_end-to.ensures in record {
+      seen_len = l.invariant.sixteen;
+      stretch_in = record {
         low = omega (arith, e.0);
         most = e.2;
         room = omega (arith, e.1, l.invariant.same-mask, c.requires.row_pre.whole, c.requires.row_pre.here, row_fits c.args.f.width c.args.f.height c.args.v c.requires.row_pre.second);
-      } }
+      };
+    }
 
 pub overflow_add-row : goal.overflow_add-row
 overflow_add-row c =

@@ -1,6 +1,7 @@
 use mathlib.Core.Path.{◌≡◌, refl, sym, ap, ◌∙◌}
 use Prim.Native.Nat.{ℕ, ◌<◌}
 use native.Mathlib.Omega.{arith}
+use borrow.Author.Rules.{rules}
 use lib.ListN.{get_or}
 use Rattle.mesh.specs.Frame.{StepPre}
 use Rattle.mesh.specs.Scan.{slot}
@@ -35,7 +36,7 @@ claim_at-c-requires c =
 pub put_quad-requires : goal.put_quad-requires
 put_quad-requires c =
     let k = c.claim_at-c.ensures in
-    record { lies = c.requires.lies; wide = k.wide; high = k.high; finish = (c.slice_known-1.given c.args.at).fits }
+    record { lies = c.requires.lies; wide = k.wide; high = k.high; finish = search rules }
 
 pub returns : goal.returns
 returns c =

@@ -1,4 +1,4 @@
-use Prim.Native.Nat.{◌+◌, ◌-◌, ◌*◌, ◌<◌}
+use Prim.Native.Nat.{◌+◌, ◌*◌, ◌<◌}
 use native.Mathlib.Omega.{arith}
 use lib.ListN.{length}
 use mathlib.Core.Path.{◌≡◌}
@@ -19,12 +19,13 @@ across : (c : After-on_axis-n) → c.on_axis-n.result ≡ on_axis (first_at c.ar
 across c = first-is c.args.side.number (axes_read c.requires.1) c.args.p.across c.on_axis-n.ensures
 
 left : (c : In-loop-a) → c.loop-a.a < on_axis (first_at c.args.side.number) c.args.p.across
-left c = omega (arith, c.loop-a-test.true, (first-is c.args.side.number (axes_read c.requires.1) c.args.p.across c.on_axis-n.ensures))
+left c = omega (arith, c.loop-a-test.true, first-is c.args.side.number (axes_read c.requires.1) c.args.p.across c.on_axis-n.ensures)
 
 -- where the next section is laid
 room : (c : In-loop-a) → c.args.b * 16 * c.on_axis-w.result + c.loop-a.a * 16 < length c.args.mask.now
 room c =
-    omega (arith, (width_is c.args.side.number (axes_read c.requires.1) (shape_of c.args.v) c.requires.0.part c.on_axis-w.ensures), wide-some (shape_of c.args.v) c.args.p c.args.side.number c.requires.0.part (left c), band-room _ _ _ c.requires.0 c.on_axis-w.result ((width_is c.args.side.number (axes_read c.requires.1) (shape_of c.args.v) c.requires.0.part c.on_axis-w.ensures)))
+    let w = width_is c.args.side.number (axes_read c.requires.1) (shape_of c.args.v) c.requires.0.part c.on_axis-w.ensures in
+    omega (arith, w, wide-some (shape_of c.args.v) c.args.p c.args.side.number c.requires.0.part (left c), band-room _ _ _ c.requires.0 c.on_axis-w.result w)
 
 pub overflow_mul-to : goal.overflow_mul-to
 overflow_mul-to c = omega (arith, band_small _ _ _ c.requires.0)

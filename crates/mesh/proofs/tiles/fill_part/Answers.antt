@@ -1,4 +1,4 @@
-use Prim.Native.Nat.{◌-◌, ◌<◌}
+use Prim.Native.Nat.{◌<◌}
 use native.Mathlib.Omega.{arith}
 use mathlib.Core.Path.{◌≡◌}
 use Rattle.stand.specs.Shape.{shape_of}
@@ -14,7 +14,7 @@ across : (c : After-on_axis-n) → c.on_axis-n.result ≡ on_axis (second_at c.a
 across c = second_is c.args.side.number (axes_read c.requires.1) c.args.p.across c.on_axis-n.ensures
 
 left : (c : In-loop-b) → c.loop-b.b < on_axis (second_at c.args.side.number) c.args.p.across
-left c = omega (arith, c.loop-b-test.true, (second_is c.args.side.number (axes_read c.requires.1) c.args.p.across c.on_axis-n.ensures))
+left c = omega (arith, c.loop-b-test.true, second_is c.args.side.number (axes_read c.requires.1) c.args.p.across c.on_axis-n.ensures)
 
 pub loop-b-init : goal.loop-b-init
 loop-b-init c = (omega arith, filled_none (λ u v a b. omega arith))
