@@ -9,7 +9,7 @@ use borrow.Author.Tests.{ne_eqb}
 use lib.ListN.{get_or, length, replicate, set}
 use lib.Seq.{get_or-set_other}
 use Rattle.stand.specs.Edit.{advanced, changed, fitting, hash_after, set_call, solid_after, toggled}
-use Rattle.stand.specs.Shape.{Shape, cell_from, counted, opens, place_of, sections, shape_of, slot, spot_at, well_formed}
+use Rattle.stand.specs.Shape.{Shape, cell_from, counted, opens, place_of, sections, shape_of, spot_at, well_formed}
 use Rattle.stand.specs.Storage.{Outcome, State, fresh_state, fresh_storage, shape, volume_of}
 use Rattle.stand.specs.declared.volume.shape.Place.TheVariants as P
 use Rattle.stand.proofs.Edit.{change_at, changed-fitting, changed-formed, changed-shape}

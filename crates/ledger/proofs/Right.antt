@@ -9,7 +9,6 @@ use lib.ListN.{length}
 use Rattle.stand.specs.Refusal.{answer, first, gives}
 use Rattle.stand.specs.Shape.{inside, opens, sections, shape_of}
 use Rattle.stand.specs.Sides.{side_number}
-use Rattle.stand.specs.Storage.{shape}
 use Rattle.stand.specs.declared.Cell.{Cell}
 use Rattle.stand.specs.declared.Face.{Face}
 use Rattle.mesh.specs.Cover.{covers, face_sum, faces_in, sum_to}

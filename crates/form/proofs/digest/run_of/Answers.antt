@@ -1,5 +1,4 @@
 use mathlib.Core.Path.{refl, ◌∙◌}
-use Prim.Native.Nat.{◌-◌}
 use native.Mathlib.Omega.{arith}
 use Rattle.form.proofs.digest.Laws.{run_end, run_on, run_stop}
 use Rattle.form.proofs.digest.run_of.Goals as goal

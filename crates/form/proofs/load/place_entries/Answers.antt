@@ -1,4 +1,3 @@
-use Prim.Native.Nat.{◌-◌}
 use native.Mathlib.Omega.{arith}
 use Rattle.form.proofs.load.Laws.{put-cell, put-hash, puts_all, puts_more, puts_none}
 use Rattle.form.proofs.load.place_entries.Goals as goal

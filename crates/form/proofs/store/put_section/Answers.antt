@@ -1,6 +1,6 @@
 use mathlib.Core.Path.{◌≡◌, sym, ap, ◌∙◌}
 use mathlib.Core.List.{List}
-use Prim.Native.Nat.{ℕ, ◌+◌, ◌-◌, ◌*◌}
+use Prim.Native.Nat.{ℕ, ◌+◌, ◌*◌}
 use native.Mathlib.Omega.{arith}
 use lib.ListN.{length}
 use lib.Seq.{sets}
@@ -38,8 +38,7 @@ put_one-at-requires c =
 
 pub loop-j-preserved : goal.loop-j-preserved
 loop-j-preserved c =
-    let past = goal.at.loop-j-preserved c in
-    (
+    let past = goal.at.loop-j-preserved c in (
       wrote_more (kept_in c.corner_in-low.result c.counts-n.result c.args.cells.now) c.args.out.now (c.args.section * 4096) c.args.from c.loop-j.j c.loop-j.at _ c.loop-j.invariant.0 1
           (c.put_one-at.ensures.0 ∙ ap (λ (es : List Entry). sets c.loop-j.out c.loop-j.at (entries_bytes es)) (sym (one-is past.After-put_one-arg-1)))
           (c.put_one-at.ensures.1 ∙ ap (λ (es : List Entry). c.loop-j.at + length (entries_bytes es)) (sym (one-is past.After-put_one-arg-1))),
