@@ -13,7 +13,7 @@ fn main() {
     let archive = folder.join("libexports.a");
     assert!(
         archive.is_file(),
-        "no {}: run `rt staticlib exports` at the repository's root, or set STAND_LIB to its folder",
+        "no {}: run `example/archive` at the repository's root, or set STAND_LIB to its folder",
         archive.display()
     );
     println!("cargo:rerun-if-changed={}", archive.display());

@@ -2,6 +2,8 @@
 use crate::numbers::{Numbers, and, one};
 use crate::read::{FOLD, NONE};
 use crate::show::{numbers, text, which};
+use std::io;
+use std::io::Write;
 
 fn same(a: Numbers, b: Numbers) -> bool {
     if a.count != b.count {
@@ -32,16 +34,21 @@ fn in_form(expected: Numbers, answer: Numbers) -> Numbers {
 }
 
 // Whether an answer is the one that line number `line` gives; it prints both where it is not.
-pub(crate) fn agrees(line: u64, expected: Numbers, answer: Numbers) -> bool {
+pub(crate) fn agrees<W: Write>(
+    output: &mut W,
+    line: u64,
+    expected: Numbers,
+    answer: Numbers,
+) -> io::Result<bool> {
     let came = in_form(expected, answer);
     if same(expected, came) {
-        return true;
+        return Ok(true);
     }
-    which(line);
-    text(b"expected");
-    numbers(expected);
-    text(b", came");
-    numbers(came);
-    text(b"\n");
-    false
+    which(output, line)?;
+    text(output, b"expected")?;
+    numbers(output, expected)?;
+    text(output, b", came")?;
+    numbers(output, came)?;
+    text(output, b"\n")?;
+    Ok(false)
 }

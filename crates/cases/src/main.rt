@@ -23,16 +23,22 @@ mod turn;
 mod verb;
 mod words;
 
+use std::io;
+use std::io::BufReader;
+
 // Makes the calls of the lines, one after another, until they end or one is no call.
-fn main() {
+fn main(rt: HostRuntime) -> io::Result<()> {
+    let mut input = BufReader::new(rt.alloc(), rt.reader())?;
+    let mut output = io::writer(&rt);
     let mut stage = stage::first();
     let mut line: u64 = 0;
     // More lines than a text can have.
     while line < 0xffff_ffff_ffff_ffff {
         line += 1;
-        stage = turn::turn(line, stage);
+        stage = turn::turn(&mut input, &mut output, line, stage)?;
         if stage.over {
-            return;
+            return Ok(());
         }
     }
+    Ok(())
 }

@@ -1,65 +1,61 @@
 // Texts and numbers, written to standard output.
 use crate::numbers::Numbers;
 use crate::read::{EXTRA, FOLD, MISSING, NONE, NOT_A_NUMBER, REFUSED, TOO_LARGE};
-use libc::STDOUT_FILENO;
+use std::io;
+use std::io::Write;
 
-pub(crate) fn text(s: &[u8]) {
-    io::write_all(STDOUT_FILENO, s);
+pub(crate) fn text<W: Write>(output: &mut W, s: &[u8]) -> io::Result<()> {
+    output.write_all(s)
 }
 
-pub(crate) fn plain(n: u64) {
-    io::print_decimal(STDOUT_FILENO, n);
+pub(crate) fn plain<W: Write>(output: &mut W, n: u64) -> io::Result<()> {
+    write!(output, "{n}")
 }
 
 // Which line is spoken of.
-pub(crate) fn which(line: u64) {
-    text(b"line ");
-    plain(line);
-    text(b": ");
+pub(crate) fn which<W: Write>(output: &mut W, line: u64) -> io::Result<()> {
+    write!(output, "line {line}: ")
 }
 
 // A number as it is written in an answer, after a blank.
-fn number(x: u64) {
-    text(b" ");
+fn number<W: Write>(output: &mut W, x: u64) -> io::Result<()> {
+    text(output, b" ")?;
     if x == REFUSED {
-        text(b"refused");
-        return;
+        return text(output, b"refused");
     }
     if x == NONE {
-        text(b"none");
-        return;
+        return text(output, b"none");
     }
     if x == FOLD {
-        text(b"fold");
-        return;
+        return text(output, b"fold");
     }
     if x < 0xffff_ffff_8000_0000 {
-        plain(x);
-        return;
+        return plain(output, x);
     }
-    text(b"-");
-    plain(std::num::wrapping_sub_u64(0, x));
+    text(output, b"-")?;
+    plain(output, std::num::wrapping_sub_u64(0, x))
 }
 
 // The first 64 of them.
-pub(crate) fn numbers(n: Numbers) {
+pub(crate) fn numbers<W: Write>(output: &mut W, n: Numbers) -> io::Result<()> {
     let list = n.list;
     let mut i = 0;
     while i < 64 {
         if n.count <= i {
-            return;
+            return Ok(());
         }
-        number(list[i]);
+        number(output, list[i])?;
         i += 1;
     }
+    Ok(())
 }
 
-pub(crate) fn fault(f: u64) {
+pub(crate) fn fault<W: Write>(output: &mut W, f: u64) -> io::Result<()> {
     match f {
-        MISSING => text(b"a number is missing\n"),
-        NOT_A_NUMBER => text(b"not a number\n"),
-        TOO_LARGE => text(b"a number is too large\n"),
-        EXTRA => text(b"more than the call takes\n"),
-        _ => text(b"unknown word\n"),
+        MISSING => text(output, b"a number is missing\n"),
+        NOT_A_NUMBER => text(output, b"not a number\n"),
+        TOO_LARGE => text(output, b"a number is too large\n"),
+        EXTRA => text(output, b"more than the call takes\n"),
+        _ => text(output, b"unknown word\n"),
     }
 }

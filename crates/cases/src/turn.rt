@@ -7,6 +7,8 @@ use crate::numbers::Numbers;
 use crate::parse::{Parsed, parse};
 use crate::show::{fault, plain, text, which};
 use crate::stage::{Stage, Tally};
+use std::io;
+use std::io::{Read, Write};
 
 // What a call leaves, and what it answers.
 #[derive(Clone, Copy)]
@@ -15,75 +17,86 @@ pub(crate) struct Done {
     pub answer: Numbers,
 }
 
-fn report(t: Tally) {
-    plain(t.calls);
-    text(b" calls, ");
-    plain(t.compared);
-    text(b" answers compared, ");
-    plain(t.differ);
-    text(b" differ\n");
+fn report<W: Write>(output: &mut W, t: Tally) -> io::Result<()> {
+    plain(output, t.calls)?;
+    text(output, b" calls, ")?;
+    plain(output, t.compared)?;
+    text(output, b" answers compared, ")?;
+    plain(output, t.differ)?;
+    text(output, b" differ\n")
 }
 
 // After the last line, or at one that is too long or no call: after it no answer would be right.
-fn stop(line: u64, s: Stage, input: Input, f: u64) -> Stage {
-    match input {
+fn stop<W: Write>(output: &mut W, line: u64, s: Stage, read: Input, f: u64) -> io::Result<Stage> {
+    match read {
         Input::End => {
             let t = s.tally;
-            report(t);
+            report(output, t)?;
         }
         Input::TooLong => {
-            which(line);
-            text(b"longer than 4095 bytes\n");
+            which(output, line)?;
+            text(output, b"longer than 4095 bytes\n")?;
         }
         Input::Line(_) => {
-            which(line);
-            fault(f);
+            which(output, line)?;
+            fault(output, f)?;
         }
     }
     let mut next = s;
     next.over = true;
-    next
+    Ok(next)
 }
 
 // A call more, its answer compared where the line gives one.
-fn count(line: u64, old: Tally, p: Parsed, answer: Numbers) -> Tally {
+fn count<W: Write>(
+    output: &mut W,
+    line: u64,
+    old: Tally,
+    p: Parsed,
+    answer: Numbers,
+) -> io::Result<Tally> {
     let mut t = old;
     t.calls = std::num::wrapping_add_u64(old.calls, 1);
     if !p.compared {
-        return t;
+        return Ok(t);
     }
     t.compared = std::num::wrapping_add_u64(old.compared, 1);
     let expected = p.expected;
-    if agrees(line, expected, answer) {
-        return t;
+    if agrees(output, line, expected, answer)? {
+        return Ok(t);
     }
     t.differ = std::num::wrapping_add_u64(old.differ, 1);
-    t
+    Ok(t)
 }
 
-fn run(line: u64, s: Stage, p: Parsed) -> Stage {
+fn run<W: Write>(output: &mut W, line: u64, s: Stage, p: Parsed) -> io::Result<Stage> {
     let args = p.args;
     let done = make(s, p.verb, args);
     let answer = done.answer;
     let tally = s.tally;
-    let next_tally = count(line, tally, p, answer);
+    let next_tally = count(output, line, tally, p, answer)?;
     let mut next = done.stage;
     next.tally = next_tally;
-    next
+    Ok(next)
 }
 
-pub(crate) fn turn(line: u64, s: Stage) -> Stage {
+pub(crate) fn turn<R: Read, W: Write>(
+    input: &mut R,
+    output: &mut W,
+    line: u64,
+    s: Stage,
+) -> io::Result<Stage> {
     let mut bytes = [0u8; 4096];
-    let input = read_line(&mut bytes);
-    let Input::Line(n) = input else {
-        return stop(line, s, input, 0);
+    let read = read_line(input, &mut bytes)?;
+    let Input::Line(n) = read else {
+        return stop(output, line, s, read, 0);
     };
     let p = parse(some_bytes(&bytes, n));
     if p.fault != 0 {
-        return stop(line, s, input, p.fault);
+        return stop(output, line, s, read, p.fault);
     }
     if p.verb == 0 {
-        return s;
+        return Ok(s);
     }
-    run(line, s, p)
+    run(output, line, s, p)
 }

@@ -95,16 +95,14 @@ fn fill_reply(a: NumberAnswer, volume: Volume) -> Edited
 }
 
 // The header that opening would give. Rules out a code for storage, which is not looked at, and a header where 1 or 2 applies.
-#[unsafe(no_mangle)]
-pub extern "C" fn stand_header(origin: Cell, size: Extent) -> Opened
+pub fn stand_header(origin: Cell, size: Extent) -> Opened
     ensures { result ≡ replied_header (header_call origin size) }
 {
     open_reply(header(origin, size))
 }
 
 // Opens a stand. Rules out a code of 0 for a refused opening, and lists that are not zeroed.
-#[unsafe(no_mangle)]
-pub extern "C" fn stand_open(
+pub fn stand_open(
     origin: Cell,
     size: Extent,
     cells: &mut [u16],
@@ -119,8 +117,7 @@ pub extern "C" fn stand_open(
 }
 
 // Gives a cell a finish. Rules out the old header for a change, and "changed" for an equal finish.
-#[unsafe(no_mangle)]
-pub extern "C" fn stand_set(
+pub fn stand_set(
     volume: Volume,
     cells: &mut [u16],
     hashes: &mut [u64],
@@ -139,8 +136,7 @@ pub extern "C" fn stand_set(
 }
 
 // Gives every cell that lies both in a box and in the stand a finish. Rules out a count of the box instead of the cells changed, and another header than the last one.
-#[unsafe(no_mangle)]
-pub extern "C" fn stand_fill(
+pub fn stand_fill(
     volume: Volume,
     cells: &mut [u16],
     hashes: &mut [u64],

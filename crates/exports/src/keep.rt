@@ -13,24 +13,21 @@ use form::store::{store, stored_length};
 use stand::volume::Volume;
 
 // The length of the stand's form, which is written at the output's start; refused by 3, 4 and 15. Rules out a byte written by a refused call, and one written after the form.
-#[unsafe(no_mangle)]
-pub extern "C" fn stand_store(volume: Volume, cells: &[u16], out: &mut [u8]) -> Number
+pub fn stand_store(volume: Volume, cells: &[u16], out: &mut [u8]) -> Number
     ensures { store_reply_of result out.new ≡ store_reply (store_call volume cells.now out.old) }
 {
     number_reply(store(volume, cells, out))
 }
 
 // The length of the stand's form; refused by 3 and 4. Rules out a length from the header's count of occupied cells, and cells beyond the size counted.
-#[unsafe(no_mangle)]
-pub extern "C" fn stand_stored_length(volume: Volume, cells: &[u16]) -> Number
+pub fn stand_stored_length(volume: Volume, cells: &[u16]) -> Number
     ensures { result ≡ replied (stored_length volume cells.now) }
 {
     number_reply(stored_length(volume, cells))
 }
 
 // The header of the stand that a form holds, opened in the five lists; refused by 1, 2, 4 and 14. Rules out a list written by a refused call, and lists that keep anything but the form's cells and their hashes.
-#[unsafe(no_mangle)]
-pub extern "C" fn stand_load(
+pub fn stand_load(
     form: &[u8],
     cells: &mut [u16],
     hashes: &mut [u64],
@@ -44,8 +41,7 @@ pub extern "C" fn stand_load(
 }
 
 // The header that loading a form would give; refused by 1, 2 and 14. Rules out a code for storage, which is not looked at, and a header of a form that loading refuses.
-#[unsafe(no_mangle)]
-pub extern "C" fn stand_stored_header(form: &[u8]) -> Opened
+pub fn stand_stored_header(form: &[u8]) -> Opened
     ensures { result ≡ replied_header (stored_header form.now) }
 {
     open_reply(stored_header(form))

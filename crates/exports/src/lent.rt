@@ -10,8 +10,7 @@ use stand::Cell;
 use stand::volume::Volume;
 
 // Gives a cell a finish and alters the header where it is. Rules out a header that keeps its generation, and one altered by a refused call.
-#[unsafe(no_mangle)]
-pub extern "C" fn stand_set_lent(
+pub fn stand_set_lent(
     volume: &mut Volume,
     cells: &mut [u16],
     hashes: &mut [u64],

@@ -1,4 +1,4 @@
-// The C interface: the calls of the stand, of its stored form, of its meshing and of the price sheet, with structs and numbers that C knows.
+// The calls of the stand, of its stored form, of its meshing and of the price sheet, with structs and numbers that C knows. `exports_c` gives them to C.
 #![tactic(auto)]
 
 pub mod edit;

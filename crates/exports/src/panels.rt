@@ -25,8 +25,7 @@ fn faces_reply(a: FacesAnswer) -> Number
 }
 
 // The panels of the whole stand. Rules out rule 2 taken for one of the two, and a number of panels that is not the list's.
-#[unsafe(no_mangle)]
-pub extern "C" fn stand_faces(
+pub fn stand_faces(
     volume: Volume,
     cells: &[u16],
     rule: u32,
@@ -45,8 +44,7 @@ pub extern "C" fn stand_faces(
 }
 
 // The panels of a section. Rules out 0 panels needed for a list too short, and the other rule.
-#[unsafe(no_mangle)]
-pub extern "C" fn stand_chunk_faces(
+pub fn stand_chunk_faces(
     volume: Volume,
     cells: &[u16],
     chunk: usize,
@@ -66,8 +64,7 @@ pub extern "C" fn stand_chunk_faces(
 }
 
 // How many mask slots a section wants. Rules out those of a whole stand, and a code of 0 past the last section.
-#[unsafe(no_mangle)]
-pub extern "C" fn stand_chunk_slots(volume: Volume, chunk: usize) -> Number
+pub fn stand_chunk_slots(volume: Volume, chunk: usize) -> Number
     ensures { result ≡ replied (slots_call volume chunk) }
 {
     number_reply(chunk_slots(volume, chunk))

@@ -44,8 +44,7 @@ fn mark_reply(a: SheetAnswer, marks: Marks) -> Marked
 }
 
 // The sheet opened. Rules out rule 2 taken for one of the two, and a mark that is not the generation.
-#[unsafe(no_mangle)]
-pub extern "C" fn stand_open_sheet(
+pub fn stand_open_sheet(
     volume: Volume,
     mark: u64,
     cells: &[u16],
@@ -79,8 +78,7 @@ pub extern "C" fn stand_open_sheet(
 }
 
 // The sheet brought up to the generation. Rules out a mark moved with the rows left as they were, and the other rule.
-#[unsafe(no_mangle)]
-pub extern "C" fn stand_refresh(
+pub fn stand_refresh(
     volume: Volume,
     mark: u64,
     cells: &[u16],
@@ -137,8 +135,7 @@ fn totals_reply(a: TotalsAnswer) -> Sums
 }
 
 // The sums of all rows. Rules out sums of a sheet that 13 refuses, and two of the sums swapped.
-#[unsafe(no_mangle)]
-pub extern "C" fn stand_totals(volume: Volume, sheet: &[u64]) -> Sums
+pub fn stand_totals(volume: Volume, sheet: &[u64]) -> Sums
     ensures { result ≡ replied_totals (totals_call volume sheet.now) }
 {
     totals_reply(totals(volume, sheet))

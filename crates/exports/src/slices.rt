@@ -118,8 +118,7 @@ fn claim_reply(c: Claimed) -> PanelGiven
 }
 
 // Lays a slice of a section into a mask. Rules out side 6 taken for one of the six, and a mask that is written where the call is refused.
-#[unsafe(no_mangle)]
-pub extern "C" fn stand_chunk_slice(
+pub fn stand_chunk_slice(
     volume: Volume,
     cells: &[u16],
     chunk: usize,
@@ -140,8 +139,7 @@ pub extern "C" fn stand_chunk_slice(
 }
 
 // Takes a panel out of a mask. Rules out a panel that is kept in the mask, and one of another side.
-#[unsafe(no_mangle)]
-pub extern "C" fn stand_claim(slice: SideSlice, mask: &mut [u16], from: usize) -> PanelGiven
+pub fn stand_claim(slice: SideSlice, mask: &mut [u16], from: usize) -> PanelGiven
     ensures { claim_reply_of result mask.new ≡ side_claim_reply slice mask.old from }
 {
     let FaceAnswer::Is(face) = Face::at(slice.side as usize) else {

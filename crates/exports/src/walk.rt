@@ -88,34 +88,21 @@ fn solid_reply(s: SolidStep) -> SolidGiven
 }
 
 // Where a walk from a mark starts. Rules out "too old" for every mark, and another start than the mark.
-#[unsafe(no_mangle)]
-pub extern "C" fn stand_changed_since(
-    volume: Volume,
-    log: &[u32],
-    last: &[u64],
-    mark: u64,
-) -> Number
+pub fn stand_changed_since(volume: Volume, log: &[u32], last: &[u64], mark: u64) -> Number
     ensures { result ≡ replied (changed_since volume log.now last.now mark) }
 {
     number_reply(volume.changed_since(log, last, mark))
 }
 
 // The next changed section. Rules out an end before the first section, and the same section again.
-#[unsafe(no_mangle)]
-pub extern "C" fn stand_changed_step(
-    volume: Volume,
-    log: &[u32],
-    last: &[u64],
-    next: u64,
-) -> ChunkGiven
+pub fn stand_changed_step(volume: Volume, log: &[u32], last: &[u64], next: u64) -> ChunkGiven
     ensures { result ≡ replied_chunk (changed_step volume log.now last.now next) }
 {
     chunk_reply(volume.changed_step(log, last, next))
 }
 
 // The next occupied cell. Rules out an empty cell, and an end where one is left.
-#[unsafe(no_mangle)]
-pub extern "C" fn stand_solid_step(volume: Volume, cells: &[u16], next: usize) -> SolidGiven
+pub fn stand_solid_step(volume: Volume, cells: &[u16], next: usize) -> SolidGiven
     ensures { result ≡ replied_solid (solids_call volume cells.now next) }
 {
     let walk = Solids { next };

@@ -1,8 +1,9 @@
 // The lines of standard input.
-ghost use Rattle.std.specs.Prelude.{◌≤◌, length, ◌≡◌};
+ghost use Rattle.std.specs.Prelude.{◌≤◌, length, ◌≡◌, IfOk};
 ghost use Rattle.quote.specs.Input.{last_line, within};
 
-use libc::STDIN_FILENO;
+use std::io;
+use std::io::Read;
 
 #[derive(Clone, Copy)]
 pub(crate) enum Input {
@@ -14,24 +15,24 @@ pub(crate) enum Input {
 }
 
 // The next line, put at the start of a list.
-pub(crate) fn read_line(line: &mut [u8]) -> Input
-    ensures { within result ≤ length line.new }
+pub(crate) fn read_line<R: Read>(input: &mut R, line: &mut [u8]) -> io::Result<Input>
+    ensures { IfOk result (λ read. within read ≤ length line.new) }
 {
     let mut n: usize = 0;
     while n < line.len() {
         let mut byte = [0u8; 1];
-        let got = io::read_full(STDIN_FILENO, &mut byte);
+        let got = input.read(&mut byte)?;
         if got == 0 {
-            return ended(n);
+            return Ok(ended(n));
         }
         let b = byte[0];
         if b == b'\n' {
-            return Input::Line(n);
+            return Ok(Input::Line(n));
         }
         line[n] = b;
         n += 1;
     }
-    Input::TooLong
+    Ok(Input::TooLong)
 }
 
 // Where the text ends: a last line may have no end.

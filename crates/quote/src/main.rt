@@ -3,6 +3,8 @@
 
 use interpreter::Machine;
 use interpreter::start::{no_rates, start};
+use std::io;
+use std::io::{BufReader, Read, Write};
 use turn::turn;
 
 mod fault;
@@ -16,7 +18,9 @@ mod verb;
 mod words;
 
 // Makes the calls of the lines, one after another, until they end or one is bad.
-fn run_all(
+fn run_all<R: Read, W: Write>(
+    input: &mut R,
+    output: &mut W,
     m: Machine,
     cells: &mut [u16; 16384],
     hashes: &mut [u64; 4],
@@ -26,23 +30,26 @@ fn run_all(
     rates: &mut [u32; 64],
     mask: &mut [u16; 256],
     sheet: &mut [u64; 12],
-) {
+) -> io::Result<()> {
     let mut machine = m;
     let mut line: u64 = 0;
     // More lines than a text can have.
     while line < 0xffff_ffff_ffff_ffff {
         line += 1;
         let t = turn(
-            line, machine, cells, hashes, versions, log, last, rates, mask, sheet,
-        );
+            input, output, line, machine, cells, hashes, versions, log, last, rates, mask, sheet,
+        )?;
         if t.over {
-            return;
+            return Ok(());
         }
         machine = t.machine;
     }
+    Ok(())
 }
 
-fn main() {
+fn main(rt: HostRuntime) -> io::Result<()> {
+    let mut input = BufReader::new(rt.alloc(), rt.reader())?;
+    let mut output = io::writer(&rt);
     let mut cells = [0u16; 16384];
     let mut hashes = [0u64; 4];
     let mut versions = [0u32; 4];
@@ -53,6 +60,8 @@ fn main() {
     let mut sheet = [0u64; 12];
     let m = start();
     run_all(
+        &mut input,
+        &mut output,
         m,
         &mut cells,
         &mut hashes,
@@ -62,5 +71,5 @@ fn main() {
         &mut rates,
         &mut mask,
         &mut sheet,
-    );
+    )
 }

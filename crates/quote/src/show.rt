@@ -2,31 +2,30 @@
 use crate::fault::Fault;
 use interpreter::Reply;
 use interpreter::line::write_line;
-use libc::STDOUT_FILENO;
+use std::io;
+use std::io::Write;
 
-pub(crate) fn text(s: &[u8]) {
-    io::write_all(STDOUT_FILENO, s);
+pub(crate) fn text<W: Write>(output: &mut W, s: &[u8]) -> io::Result<()> {
+    output.write_all(s)
 }
 
-pub(crate) fn reply(r: Reply) {
+pub(crate) fn reply<W: Write>(output: &mut W, r: Reply) -> io::Result<()> {
     let mut out = [0u8; 96];
     let n = write_line(r, &mut out);
-    text(&out[..n]);
+    text(output, &out[..n])
 }
 
 // Which line is bad.
-pub(crate) fn which(line: u64) {
-    text(b"line ");
-    io::print_decimal(STDOUT_FILENO, line);
-    text(b": ");
+pub(crate) fn which<W: Write>(output: &mut W, line: u64) -> io::Result<()> {
+    write!(output, "line {line}: ")
 }
 
-pub(crate) fn fault(f: Fault) {
+pub(crate) fn fault<W: Write>(output: &mut W, f: Fault) -> io::Result<()> {
     match f {
-        Fault::UnknownWord => text(b"unknown word"),
-        Fault::MissingNumber => text(b"a number is missing"),
-        Fault::NotANumber => text(b"not a number"),
-        Fault::NumberTooLarge => text(b"a number is too large"),
-        Fault::ExtraWord => text(b"more than the call takes"),
+        Fault::UnknownWord => text(output, b"unknown word"),
+        Fault::MissingNumber => text(output, b"a number is missing"),
+        Fault::NotANumber => text(output, b"not a number"),
+        Fault::NumberTooLarge => text(output, b"a number is too large"),
+        Fault::ExtraWord => text(output, b"more than the call takes"),
     }
 }

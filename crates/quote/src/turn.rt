@@ -4,6 +4,8 @@ use crate::parse::{Parsed, parse};
 use crate::show::{fault, reply, text, which};
 use interpreter::Machine;
 use interpreter::run::run;
+use std::io;
+use std::io::{Read, Write};
 
 // What is held after a line, and whether the text is over.
 #[derive(Clone, Copy)]
@@ -13,37 +15,39 @@ pub(crate) struct Taken {
 }
 
 // A line with no call: nothing to do, or a fault, after which no price would be right.
-fn skip(line: u64, m: Machine, p: Parsed) -> Taken {
+fn skip<W: Write>(output: &mut W, line: u64, m: Machine, p: Parsed) -> io::Result<Taken> {
     let Parsed::Bad(f) = p else {
-        return Taken {
+        return Ok(Taken {
             machine: m,
             over: false,
-        };
+        });
     };
-    which(line);
-    fault(f);
-    text(b"\n");
-    Taken {
+    which(output, line)?;
+    fault(output, f)?;
+    text(output, b"\n")?;
+    Ok(Taken {
         machine: m,
         over: true,
-    }
+    })
 }
 
 // The same of a text that ends, or of a line that is too long.
-fn stop(line: u64, m: Machine, input: Input) -> Taken {
+fn stop<W: Write>(output: &mut W, line: u64, m: Machine, read: Input) -> io::Result<Taken> {
     let over = Taken {
         machine: m,
         over: true,
     };
-    let Input::TooLong = input else {
-        return over;
+    let Input::TooLong = read else {
+        return Ok(over);
     };
-    which(line);
-    text(b"longer than 255 bytes\n");
-    over
+    which(output, line)?;
+    text(output, b"longer than 255 bytes\n")?;
+    Ok(over)
 }
 
-pub(crate) fn turn(
+pub(crate) fn turn<R: Read, W: Write>(
+    input: &mut R,
+    output: &mut W,
     line: u64,
     m: Machine,
     cells: &mut [u16; 16384],
@@ -54,24 +58,24 @@ pub(crate) fn turn(
     rates: &mut [u32; 64],
     mask: &mut [u16; 256],
     sheet: &mut [u64; 12],
-) -> Taken {
+) -> io::Result<Taken> {
     let mut words = [0u8; 256];
-    let input = read_line(&mut words);
-    let Input::Line(n) = input else {
-        return stop(line, m, input);
+    let read = read_line(input, &mut words)?;
+    let Input::Line(n) = read else {
+        return stop(output, line, m, read);
     };
     let p = parse(&words[..n]);
     let Parsed::Is(call) = p else {
-        return skip(line, m, p);
+        return skip(output, line, m, p);
     };
     let t = run(
         m, call, cells, hashes, versions, log, last, rates, mask, sheet,
     );
     let machine = t.machine;
     let said = t.reply;
-    reply(said);
-    Taken {
+    reply(output, said)?;
+    Ok(Taken {
         machine,
         over: false,
-    }
+    })
 }

@@ -3,13 +3,17 @@
 
 use interpreter::Machine;
 use interpreter::start::{no_rates, start};
+use std::io;
+use std::io::{BufReader, Read, Write};
 
 mod turn;
 
 use turn::turn;
 
 // Makes the calls of a script, one after another, until it ends or one is broken.
-fn run_all(
+fn run_all<R: Read, W: Write>(
+    input: &mut R,
+    output: &mut W,
     m: Machine,
     cells: &mut [u16; 16384],
     hashes: &mut [u64; 4],
@@ -19,23 +23,26 @@ fn run_all(
     rates: &mut [u32; 64],
     mask: &mut [u16; 256],
     sheet: &mut [u64; 12],
-) {
+) -> io::Result<()> {
     let mut machine = m;
     // More calls than a script can have.
     let mut left: u64 = 0xffff_ffff_ffff_ffff;
     while 0 < left {
         let t = turn(
-            machine, cells, hashes, versions, log, last, rates, mask, sheet,
-        );
+            input, output, machine, cells, hashes, versions, log, last, rates, mask, sheet,
+        )?;
         if t.over {
-            return;
+            return Ok(());
         }
         machine = t.machine;
         left -= 1;
     }
+    Ok(())
 }
 
-fn main() {
+fn main(rt: HostRuntime) -> io::Result<()> {
+    let mut input = BufReader::new(rt.alloc(), rt.reader())?;
+    let mut output = io::writer(&rt);
     let mut cells = [0u16; 16384];
     let mut hashes = [0u64; 4];
     let mut versions = [0u32; 4];
@@ -46,6 +53,8 @@ fn main() {
     let mut sheet = [0u64; 12];
     let m = start();
     run_all(
+        &mut input,
+        &mut output,
         m,
         &mut cells,
         &mut hashes,
@@ -55,5 +64,5 @@ fn main() {
         &mut rates,
         &mut mask,
         &mut sheet,
-    );
+    )
 }

@@ -1,5 +1,6 @@
 // One call: read, made and answered.
-ghost use Rattle.std.specs.Prelude.{◌≡◌, ◌≤◌, max, length};
+ghost use Rattle.std.specs.Prelude.{◌≡◌, ◌≤◌, max, length, IfOk};
+ghost use Rattle.std.specs.Io.{ReadsAtMost};
 ghost use Rattle.interpreter.specs.Decode.{length_of};
 ghost use Rattle.interpreter.specs.Script.{is_broken};
 
@@ -7,7 +8,8 @@ use interpreter::decode::call_length;
 use interpreter::line::write_line;
 use interpreter::step::step;
 use interpreter::{Machine, Reply};
-use libc::{STDIN_FILENO, STDOUT_FILENO};
+use std::io;
+use std::io::{Read, Write};
 
 // What is held after a call, and whether the script is over.
 #[derive(Clone, Copy)]
@@ -27,19 +29,34 @@ fn to_read(kind: u8) -> usize
     n
 }
 
-// Reads a call up to its nth byte, behind its kind; how many bytes it then has.
-fn read_body(bytes: &mut [u8], n: usize) -> usize
-    requires { (1 ≤ n) × (n ≤ length bytes.old) }
-    ensures { result ≤ n }
+// Reads until the list is full or the input ends; how many bytes are then at the list's start.
+fn read_full<R: Read>(input: &mut R, bytes: &mut [u8]) -> io::Result<usize>
+    ensures { ReadsAtMost result bytes.new }
 {
-    let more = io::read_full(STDIN_FILENO, &mut bytes[1..n]);
-    more + 1
+    let mut done = 0;
+    while done < bytes.len() {
+        let got = input.read(&mut bytes[done..])?;
+        if got == 0 {
+            return Ok(done);
+        }
+        done += got;
+    }
+    Ok(done)
 }
 
-fn print(reply: Reply) {
+// Reads a call up to its nth byte, behind its kind; how many bytes it then has.
+fn read_body<R: Read>(input: &mut R, bytes: &mut [u8], n: usize) -> io::Result<usize>
+    requires { (1 ≤ n) × (n ≤ length bytes.old) }
+    ensures { IfOk result (λ end. end ≤ n) }
+{
+    let more = read_full(input, &mut bytes[1..n])?;
+    Ok(more + 1)
+}
+
+fn print<W: Write>(output: &mut W, reply: Reply) -> io::Result<()> {
     let mut out = [0u8; 96];
     let n = write_line(reply, &mut out);
-    io::write_all(STDOUT_FILENO, &out[..n]);
+    output.write_all(&out[..n])
 }
 
 // Whether the script stops after a reply.
@@ -54,7 +71,9 @@ fn ends(reply: Reply) -> bool
     }
 }
 
-pub(crate) fn turn(
+pub(crate) fn turn<R: Read, W: Write>(
+    input: &mut R,
+    output: &mut W,
     m: Machine,
     cells: &mut [u16; 16384],
     hashes: &mut [u64; 4],
@@ -64,20 +83,20 @@ pub(crate) fn turn(
     rates: &mut [u32; 64],
     mask: &mut [u16; 256],
     sheet: &mut [u64; 12],
-) -> Taken {
+) -> io::Result<Taken> {
     let mut kind = [0u8; 1];
-    let got = io::read_full(STDIN_FILENO, &mut kind);
+    let got = read_full(input, &mut kind)?;
     if got == 0 {
-        return Taken {
+        return Ok(Taken {
             machine: m,
             over: true,
-        };
+        });
     }
     let k = kind[0];
     let mut bytes = [0u8; 27];
     bytes[0] = k;
     let n = to_read(k);
-    let end = read_body(&mut bytes, n);
+    let end = read_body(input, &mut bytes, n)?;
     let t = step(
         &bytes[..end],
         m,
@@ -92,7 +111,7 @@ pub(crate) fn turn(
     );
     let reply = t.reply;
     let machine = t.machine;
-    print(reply);
+    print(output, reply)?;
     let over = ends(reply);
-    Taken { machine, over }
+    Ok(Taken { machine, over })
 }

@@ -49,7 +49,7 @@ pub fn program(name: &str, variable: &str) -> Option<PathBuf> {
         return Some(path);
     }
     println!(
-        "no {}: run `rt check {name}` at the repository's root, or set {variable} to the program",
+        "no {}: run `example/program {name}` at the repository's root, or set {variable} to the program",
         path.display()
     );
     None

@@ -1,0 +1,15 @@
+-- `exports::prices::stand_refresh` meets its contract.
+use Rattle.exports.specs.Prices.{refresh_reply}
+use Rattle.exports.proofs.Named.{named_none, named_some, rule_is, rule_none}
+use Rattle.exports.proofs.Written.{marked_so}
+use Rattle.exports.proofs.prices.stand_refresh.Goals as goal
+
+pub returns-in_default : goal.returns-in_default
+unfolding refresh_reply
+returns-in_default c =
+    named_none _ _ (rule_none c.in_default.is c.rule_at.ensures)
+
+pub returns : goal.returns
+unfolding refresh_reply
+returns c =
+    named_some _ _ (rule_is c.in-Is.is c.rule_at.ensures) (marked_so c.refresh-done.ensures c.mark_reply.ensures)

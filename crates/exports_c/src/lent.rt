@@ -1,0 +1,25 @@
+// The editing call over a header that is lent.
+ghost use Rattle.std.specs.Prelude.{◌≡◌};
+ghost use Rattle.stand.specs.Edit.{set_call};
+ghost use Rattle.stand.specs.Storage.{state_of};
+ghost use Rattle.exports.specs.Edit.{lent_of, lent_reply};
+
+use exports::reply::Number;
+use stand::Cell;
+use stand::volume::Volume;
+
+#[unsafe(no_mangle)]
+pub extern "C" fn stand_set_lent(
+    volume: &mut Volume,
+    cells: &mut [u16],
+    hashes: &mut [u64],
+    versions: &mut [u32],
+    log: &mut [u32],
+    last: &mut [u64],
+    cell: Cell,
+    finish: u16,
+) -> Number
+    ensures { lent_of result (state_of volume.new cells.new hashes.new versions.new log.new last.new) ≡ lent_reply (set_call (state_of volume.old cells.old hashes.old versions.old log.old last.old) cell finish) }
+{
+    exports::lent::stand_set_lent(volume, cells, hashes, versions, log, last, cell, finish)
+}

@@ -1,0 +1,11 @@
+// The C interface, include/stand.h: each function is the one of its name in `exports`, and promises what that promises.
+#![tactic(auto)]
+
+pub mod edit;
+pub mod keep;
+pub mod lent;
+pub mod panels;
+pub mod prices;
+pub mod read;
+pub mod slices;
+pub mod walk;
