@@ -26,7 +26,8 @@ pub(crate) fn list_seen(seen: &mut [usize; 16], mask: &[u16], row: usize, from: 
     while from < u {
         u -= 1;
         let x = mask[row + u];
-        nearest = if x == 0 { nearest } else { u };
+        let blank = x == 0;
+        nearest = if blank { nearest } else { u };
         seen[u - from] = nearest;
     }
 }

@@ -7,7 +7,7 @@ use Rattle.mesh.specs.Stretch.{SeenList}
 use Rattle.mesh.proofs.Claims.{blank-front, blank-start}
 use Rattle.mesh.proofs.Stretches.{seen_more, seen_none}
 use Rattle.mesh.proofs.stretch.list_seen.Goals as goal
-use Rattle.mesh.proofs.stretch.list_seen.Goals.{then-x-eq0, else-x-eq0}
+use Rattle.mesh.proofs.stretch.list_seen.Goals.{then-blank, else-blank}
 
 pub loop-u-init : goal.loop-u-init
 loop-u-init c = (c.requires.stretch_in.low, blank-start (omega arith), c.requires.seen_len, seen_none _ _ _ _ _)
@@ -18,12 +18,12 @@ loop-u-preserved c =
     let m = c.args.mask.now in
     let low : c.args.from ≤ u = omega (arith, c.loop-u-test.true) in
     let one : c.loop-u.u ≡ suc u = omega (arith, c.loop-u-test.true) in
-    let on : Blank m (c.args.row + u) (c.args.row + c.args.to) (c.args.row + c.if-x-eq0.nearest) =
-    (elim c.if-x-eq0.branch [ then-x-eq0 w ↦ rw w.nearest-is (blank-front (omega (arith, one)) w.if-x-eq0.true c.loop-u.invariant.1) | else-x-eq0 w ↦ rw w.nearest-is (blank-start (omega (arith, c.loop-u.invariant.1.low, c.loop-u.invariant.1.high))) ]) in (
+    let on : Blank m (c.args.row + u) (c.args.row + c.args.to) (c.args.row + c.if-blank.nearest) =
+    (elim c.if-blank.branch [ then-blank w ↦ rw w.nearest-is (blank-front (omega (arith, one)) w.if-blank.true c.loop-u.invariant.1) | else-blank w ↦ rw w.nearest-is (blank-start (omega (arith, c.loop-u.invariant.1.low, c.loop-u.invariant.1.high))) ]) in (
       low,
       on,
-      length-set c.loop-u.seen (u - c.args.from) c.if-x-eq0.nearest ∙ c.loop-u.invariant.2,
-      seen_more c.loop-u.seen c.if-x-eq0.nearest low one (omega (arith, c.loop-u.invariant.2, c.requires.stretch_in.most, c.loop-u.invariant.1.low, c.loop-u.invariant.1.high, c.loop-u-test.true)) on c.loop-u.invariant.3,
+      length-set c.loop-u.seen (u - c.args.from) c.if-blank.nearest ∙ c.loop-u.invariant.2,
+      seen_more c.loop-u.seen c.if-blank.nearest low one (omega (arith, c.loop-u.invariant.2, c.requires.stretch_in.most, c.loop-u.invariant.1.low, c.loop-u.invariant.1.high, c.loop-u-test.true)) on c.loop-u.invariant.3,
     )
 
 pub returns : goal.returns
