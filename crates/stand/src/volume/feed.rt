@@ -33,7 +33,8 @@ pub(crate) fn feed_code(v: Volume, log: usize, last: usize, mark: u64) -> u32
     if v.generation < mark {
         return 8;
     }
-    if n < v.generation - mark {
+    let too_old = n < v.generation - mark;
+    if too_old {
         return 9;
     }
     0

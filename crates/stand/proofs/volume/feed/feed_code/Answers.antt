@@ -22,8 +22,8 @@ returns-then-last-n c = sym (no_last _ _ _ _ (ok (goal.at.returns-then-last-n c)
 pub returns-then-v-mark : goal.returns-then-v-mark
 returns-then-v-mark c = sym (ahead _ _ _ _ (ok (goal.at.returns-then-v-mark c).Else-not-is_well_formed) _ c.chunk_total-n.ensures.0 c.if-log-n.false c.if-last-n.false c.if-v-mark.true)
 
-pub returns-then-n-v : goal.returns-then-n-v
-returns-then-n-v c = sym (late _ _ _ _ (ok (goal.at.returns-then-n-v c).Else-not-is_well_formed) _ c.chunk_total-n.ensures.0 c.if-log-n.false c.if-last-n.false c.if-v-mark.false c.if-n-v.true)
+pub returns-then-too_old : goal.returns-then-too_old
+returns-then-too_old c = sym (late _ _ _ _ (ok (goal.at.returns-then-too_old c).Else-not-is_well_formed) _ c.chunk_total-n.ensures.0 c.if-log-n.false c.if-last-n.false c.if-v-mark.false c.if-too_old.true)
 
 pub returns : goal.returns
-returns c = sym (in_reach _ _ _ _ (ok (goal.at.returns c).Else-not-is_well_formed) _ c.chunk_total-n.ensures.0 c.if-log-n.false c.if-last-n.false c.if-v-mark.false c.if-n-v.false)
+returns c = sym (in_reach _ _ _ _ (ok (goal.at.returns c).Else-not-is_well_formed) _ c.chunk_total-n.ensures.0 c.if-log-n.false c.if-last-n.false c.if-v-mark.false c.if-too_old.false)
