@@ -20,6 +20,9 @@ pub returns : goal.returns
 returns c =
     let past = goal.at.returns c in
     let d = c.decimal-k in
-    record { appended = put-number c.args.out.now c.append-end.new.out d.new.out c.args.at d.result c.args.n c.args.after c.append-end.result
+    record {
+      appended = put-number c.args.out.now c.append-end.new.out d.new.out c.args.at d.result c.args.n c.args.after c.append-end.result
           (omega (arith, c.ranges.n.fits)) d.ensures.len d.ensures.digits c.append-end.ensures.appended
-          (omega (arith, end past.After-append-end, c.requires, c.append-arg-1.given.0.1, c.append-end.auto.out)); upper_bound = omega (arith, end past.After-append-end) }
+          (omega (arith, end past.After-append-end, c.requires, c.append-arg-1.given.0.1, c.append-end.auto.out));
+      upper_bound = omega (arith, end past.After-append-end);
+    }

@@ -1,6 +1,5 @@
 use mathlib.Core.Path.{◌≡◌, sym, ◌∙◌}
 use mathlib.Core.Bool.{true}
-use Prim.Native.Nat.{◌-◌}
 use native.Mathlib.Omega.{arith}
 use Rattle.quote.specs.Number.{is_digit}
 use Rattle.quote.proofs.Decimal.{digit_least, digits_none, digits_begin, rest_end, rest_bad, rest-on}
@@ -25,11 +24,10 @@ pub add_digit-n-requires : goal.add_digit-n-requires
 add_digit-n-requires c = (c.loop-i.invariant.0, digit_least _ (digit c))
 
 pub loop-i-preserved : goal.loop-i-preserved
-loop-i-preserved c =
-    (
-      omega arith,
-      sym (rest-on _ _ _ _ c.loop-i-test.true c.peek-b.ensures (digit (goal.at.loop-i-preserved c).Else-not-is_digit) c.add_digit-n.ensures) ∙ c.loop-i.invariant.1,
-    )
+loop-i-preserved c = (
+  omega arith,
+  sym (rest-on _ _ _ _ c.loop-i-test.true c.peek-b.ensures (digit (goal.at.loop-i-preserved c).Else-not-is_digit) c.add_digit-n.ensures) ∙ c.loop-i.invariant.1,
+)
 
 pub returns : goal.returns
 returns c = sym (rest_end _ _ _ _ c.loop-i-test.false c.loop-i.invariant.0) ∙ c.loop-i.invariant.1

@@ -1,5 +1,4 @@
 use mathlib.Core.Path.{refl, sym, ◌∙◌}
-use Prim.Native.Nat.{◌-◌}
 use Rattle.quote.proofs.Found.{spells-end, spells-short, spells-other, spells-on}
 use Rattle.quote.proofs.words.is_word.Goals as goal
 

@@ -1,6 +1,5 @@
 use mathlib.Core.Path.{refl, sym, ap, ◌∙◌}
 use mathlib.Core.Bool.{not}
-use Prim.Native.Nat.{◌-◌}
 use Rattle.quote.proofs.Found.{first-end, first-here, first_on}
 use Rattle.quote.proofs.words.skip_blanks.Goals as goal
 

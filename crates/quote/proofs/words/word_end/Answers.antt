@@ -1,5 +1,4 @@
 use mathlib.Core.Path.{refl, sym, ◌∙◌}
-use Prim.Native.Nat.{◌-◌}
 use Rattle.quote.proofs.Found.{first-end, first-here, first_on}
 use Rattle.quote.proofs.words.word_end.Goals as goal
 
