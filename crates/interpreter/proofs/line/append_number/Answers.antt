@@ -8,7 +8,7 @@ few_places : (c : After-decimal-k) → c.decimal-k.result ≤ 20
 few_places c = few c.decimal-k.result c.args.n (omega (arith, c.ranges.n.fits)) c.decimal-k.ensures.len
 
 pub append-end-requires : goal.append-end-requires
-append-end-requires c = omega (arith, few_places (goal.at.append-end-requires c).After-decimal-k, c.decimal-k.ensures.in_bounds.1, c.append-arg-1.given.0.1)
+append-end-requires c = omega (arith, few_places (goal.at.append-end-requires c).After-decimal-k, c.decimal-k.ensures.in_bounds.1)
 
 end : (c : After-append-end) → c.append-end.result ≤ c.args.at + 20
 end c = omega (arith, (few c.decimal-k.result c.args.n (omega (arith, c.ranges.n.fits)) c.decimal-k.ensures.len), c.decimal-k.ensures.in_bounds.1, c.append-end.ensures.value)
@@ -23,6 +23,6 @@ returns c =
     record {
       appended = put-number c.args.out.now c.append-end.new.out d.new.out c.args.at d.result c.args.n c.args.after c.append-end.result
           (omega (arith, c.ranges.n.fits)) d.ensures.len d.ensures.digits c.append-end.ensures.appended
-          (omega (arith, end past.After-append-end, c.requires, c.append-arg-1.given.0.1, c.append-end.auto.out));
+          (omega (arith, end past.After-append-end, c.requires, c.append-end.auto.out));
       upper_bound = omega (arith, end past.After-append-end);
     }
