@@ -2,7 +2,7 @@
  * The stand in C: a store of coated cubes, its edits, its changes, its panels, their price, and the form in which
  * a file keeps it.
  *
- * Link with libexports.a, which `rt staticlib exports` writes (x86-64 Linux).
+ * Link with libexports.a, which `example/archive` writes (x86-64 Linux).
  *
  * Terms. A cell is a cube at whole coordinates x, y, z; it holds a finish, 1 to 65,535, or 0 for empty.
  * A section is 16 by 16 by 16 cells, the last one along an axis cut short by the stand's size; sections are

@@ -24,11 +24,10 @@ mod verb;
 mod words;
 
 use std::io;
-use std::io::BufReader;
 
 // Makes the calls of the lines, one after another, until they end or one is no call.
 fn main(rt: HostRuntime) -> io::Result<()> {
-    let mut input = BufReader::new(rt.alloc(), rt.reader())?;
+    let mut input = rt.reader();
     let mut output = io::writer(&rt);
     let mut stage = stage::first();
     let mut line: u64 = 0;

@@ -4,7 +4,7 @@
 use interpreter::Machine;
 use interpreter::start::{no_rates, start};
 use std::io;
-use std::io::{BufReader, Read, Write};
+use std::io::{Read, Write};
 use turn::turn;
 
 mod fault;
@@ -48,7 +48,7 @@ fn run_all<R: Read, W: Write>(
 }
 
 fn main(rt: HostRuntime) -> io::Result<()> {
-    let mut input = BufReader::new(rt.alloc(), rt.reader())?;
+    let mut input = rt.reader();
     let mut output = io::writer(&rt);
     let mut cells = [0u16; 16384];
     let mut hashes = [0u64; 4];
