@@ -1,5 +1,4 @@
 // The lines of standard input.
-use std::io;
 use std::io::Read;
 
 #[derive(Clone, Copy)]
@@ -19,21 +18,29 @@ fn ended(n: usize) -> Input {
     Input::Line(n)
 }
 
+// One read; 0 where the input ends or the read fails.
+fn read_some<R: Read>(input: &mut R, bytes: &mut [u8]) -> usize {
+    match input.read(bytes) {
+        Ok(got) => got,
+        Err(_) => 0,
+    }
+}
+
 // The next line, put at the start of a list.
-pub(crate) fn read_line<R: Read>(input: &mut R, line: &mut [u8]) -> io::Result<Input> {
+pub(crate) fn read_line<R: Read>(input: &mut R, line: &mut [u8]) -> Input {
     let mut n: usize = 0;
     while n < line.len() {
         let mut byte = [0u8; 1];
-        let got = input.read(&mut byte)?;
+        let got = read_some(input, &mut byte);
         if got == 0 {
-            return Ok(ended(n));
+            return ended(n);
         }
         let b = byte[0];
         if b == b'\n' {
-            return Ok(Input::Line(n));
+            return Input::Line(n);
         }
         line[n] = b;
         n += 1;
     }
-    Ok(Input::TooLong)
+    Input::TooLong
 }

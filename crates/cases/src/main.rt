@@ -26,18 +26,17 @@ mod words;
 use std::io;
 
 // Makes the calls of the lines, one after another, until they end or one is no call.
-fn main(rt: HostRuntime) -> io::Result<()> {
-    let mut input = rt.reader();
+fn main(rt: HostRuntime) {
+    let mut input = rt.stdin();
     let mut output = io::writer(&rt);
     let mut stage = stage::first();
     let mut line: u64 = 0;
     // More lines than a text can have.
     while line < 0xffff_ffff_ffff_ffff {
         line += 1;
-        stage = turn::turn(&mut input, &mut output, line, stage)?;
+        stage = turn::turn(&mut input, &mut output, line, stage);
         if stage.over {
-            return Ok(());
+            return;
         }
     }
-    Ok(())
 }

@@ -30,7 +30,7 @@ fn run_all<R: Read, W: Write>(
     rates: &mut [u32; 64],
     mask: &mut [u16; 256],
     sheet: &mut [u64; 12],
-) -> io::Result<()> {
+) {
     let mut machine = m;
     let mut line: u64 = 0;
     // More lines than a text can have.
@@ -38,17 +38,16 @@ fn run_all<R: Read, W: Write>(
         line += 1;
         let t = turn(
             input, output, line, machine, cells, hashes, versions, log, last, rates, mask, sheet,
-        )?;
+        );
         if t.over {
-            return Ok(());
+            return;
         }
         machine = t.machine;
     }
-    Ok(())
 }
 
-fn main(rt: HostRuntime) -> io::Result<()> {
-    let mut input = rt.reader();
+fn main(rt: HostRuntime) {
+    let mut input = rt.stdin();
     let mut output = io::writer(&rt);
     let mut cells = [0u16; 16384];
     let mut hashes = [0u64; 4];
@@ -71,5 +70,5 @@ fn main(rt: HostRuntime) -> io::Result<()> {
         &mut rates,
         &mut mask,
         &mut sheet,
-    )
+    );
 }

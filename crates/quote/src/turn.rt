@@ -4,7 +4,6 @@ use crate::parse::{Parsed, parse};
 use crate::show::{fault, reply, text, which};
 use interpreter::Machine;
 use interpreter::run::run;
-use std::io;
 use std::io::{Read, Write};
 
 // What is held after a line, and whether the text is over.
@@ -15,34 +14,34 @@ pub(crate) struct Taken {
 }
 
 // A line with no call: nothing to do, or a fault, after which no price would be right.
-fn skip<W: Write>(output: &mut W, line: u64, m: Machine, p: Parsed) -> io::Result<Taken> {
+fn skip<W: Write>(output: &mut W, line: u64, m: Machine, p: Parsed) -> Taken {
     let Parsed::Bad(f) = p else {
-        return Ok(Taken {
+        return Taken {
             machine: m,
             over: false,
-        });
+        };
     };
-    which(output, line)?;
-    fault(output, f)?;
-    text(output, b"\n")?;
-    Ok(Taken {
+    which(output, line);
+    fault(output, f);
+    text(output, b"\n");
+    Taken {
         machine: m,
         over: true,
-    })
+    }
 }
 
 // The same of a text that ends, or of a line that is too long.
-fn stop<W: Write>(output: &mut W, line: u64, m: Machine, read: Input) -> io::Result<Taken> {
+fn stop<W: Write>(output: &mut W, line: u64, m: Machine, read: Input) -> Taken {
     let over = Taken {
         machine: m,
         over: true,
     };
     let Input::TooLong = read else {
-        return Ok(over);
+        return over;
     };
-    which(output, line)?;
-    text(output, b"longer than 255 bytes\n")?;
-    Ok(over)
+    which(output, line);
+    text(output, b"longer than 255 bytes\n");
+    over
 }
 
 pub(crate) fn turn<R: Read, W: Write>(
@@ -58,9 +57,9 @@ pub(crate) fn turn<R: Read, W: Write>(
     rates: &mut [u32; 64],
     mask: &mut [u16; 256],
     sheet: &mut [u64; 12],
-) -> io::Result<Taken> {
+) -> Taken {
     let mut words = [0u8; 256];
-    let read = read_line(input, &mut words)?;
+    let read = read_line(input, &mut words);
     let Input::Line(n) = read else {
         return stop(output, line, m, read);
     };
@@ -73,9 +72,9 @@ pub(crate) fn turn<R: Read, W: Write>(
     );
     let machine = t.machine;
     let said = t.reply;
-    reply(output, said)?;
-    Ok(Taken {
+    reply(output, said);
+    Taken {
         machine,
         over: false,
-    })
+    }
 }

@@ -23,25 +23,24 @@ fn run_all<R: Read, W: Write>(
     rates: &mut [u32; 64],
     mask: &mut [u16; 256],
     sheet: &mut [u64; 12],
-) -> io::Result<()> {
+) {
     let mut machine = m;
     // More calls than a script can have.
     let mut left: u64 = 0xffff_ffff_ffff_ffff;
     while 0 < left {
         let t = turn(
             input, output, machine, cells, hashes, versions, log, last, rates, mask, sheet,
-        )?;
+        );
         if t.over {
-            return Ok(());
+            return;
         }
         machine = t.machine;
         left -= 1;
     }
-    Ok(())
 }
 
-fn main(rt: HostRuntime) -> io::Result<()> {
-    let mut input = rt.reader();
+fn main(rt: HostRuntime) {
+    let mut input = rt.stdin();
     let mut output = io::writer(&rt);
     let mut cells = [0u16; 16384];
     let mut hashes = [0u64; 4];
@@ -64,5 +63,5 @@ fn main(rt: HostRuntime) -> io::Result<()> {
         &mut rates,
         &mut mask,
         &mut sheet,
-    )
+    );
 }

@@ -1,6 +1,5 @@
 // One call: read, made and answered.
-ghost use Rattle.std.specs.Prelude.{◌≡◌, ◌≤◌, max, length, IfOk};
-ghost use Rattle.std.specs.Io.{ReadsAtMost};
+ghost use Rattle.std.specs.Prelude.{◌≡◌, ◌≤◌, max, length};
 ghost use Rattle.interpreter.specs.Decode.{length_of};
 ghost use Rattle.interpreter.specs.Script.{is_broken};
 
@@ -8,7 +7,6 @@ use interpreter::decode::call_length;
 use interpreter::line::write_line;
 use interpreter::step::step;
 use interpreter::{Machine, Reply};
-use std::io;
 use std::io::{Read, Write};
 
 // What is held after a call, and whether the script is over.
@@ -30,33 +28,47 @@ fn to_read(kind: u8) -> usize
 }
 
 // Reads until the list is full or the input ends; how many bytes are then at the list's start.
-fn read_full<R: Read>(input: &mut R, bytes: &mut [u8]) -> io::Result<usize>
-    ensures { ReadsAtMost result bytes.new }
+fn read_full<R: Read>(input: &mut R, bytes: &mut [u8]) -> usize
+    ensures { result ≤ length bytes.new }
 {
     let mut done = 0;
     while done < bytes.len() {
-        let got = input.read(&mut bytes[done..])?;
+        let got = read_some(input, &mut bytes[done..]);
         if got == 0 {
-            return Ok(done);
+            return done;
         }
         done += got;
     }
-    Ok(done)
+    done
+}
+
+// One read; 0 where the input ends or the read fails.
+fn read_some<R: Read>(input: &mut R, bytes: &mut [u8]) -> usize
+    ensures { result ≤ length bytes.new }
+{
+    match input.read(bytes) {
+        Ok(got) => got,
+        Err(_) => 0,
+    }
 }
 
 // Reads a call up to its nth byte, behind its kind; how many bytes it then has.
-fn read_body<R: Read>(input: &mut R, bytes: &mut [u8], n: usize) -> io::Result<usize>
+fn read_body<R: Read>(input: &mut R, bytes: &mut [u8], n: usize) -> usize
     requires { (1 ≤ n) × (n ≤ length bytes.old) }
-    ensures { IfOk result (λ end. end ≤ n) }
+    ensures { result ≤ n }
 {
-    let more = read_full(input, &mut bytes[1..n])?;
-    Ok(more + 1)
+    let more = read_full(input, &mut bytes[1..n]);
+    more + 1
 }
 
-fn print<W: Write>(output: &mut W, reply: Reply) -> io::Result<()> {
+// Writes the line of a reply; a write that fails is passed over.
+fn print<W: Write>(output: &mut W, reply: Reply) {
     let mut out = [0u8; 96];
     let n = write_line(reply, &mut out);
-    output.write_all(&out[..n])
+    match output.write_all(&out[..n]) {
+        Ok(_) => {}
+        Err(_) => {}
+    }
 }
 
 // Whether the script stops after a reply.
@@ -83,20 +95,20 @@ pub(crate) fn turn<R: Read, W: Write>(
     rates: &mut [u32; 64],
     mask: &mut [u16; 256],
     sheet: &mut [u64; 12],
-) -> io::Result<Taken> {
+) -> Taken {
     let mut kind = [0u8; 1];
-    let got = read_full(input, &mut kind)?;
+    let got = read_full(input, &mut kind);
     if got == 0 {
-        return Ok(Taken {
+        return Taken {
             machine: m,
             over: true,
-        });
+        };
     }
     let k = kind[0];
     let mut bytes = [0u8; 27];
     bytes[0] = k;
     let n = to_read(k);
-    let end = read_body(input, &mut bytes, n)?;
+    let end = read_body(input, &mut bytes, n);
     let t = step(
         &bytes[..end],
         m,
@@ -111,7 +123,7 @@ pub(crate) fn turn<R: Read, W: Write>(
     );
     let reply = t.reply;
     let machine = t.machine;
-    print(output, reply)?;
+    print(output, reply);
     let over = ends(reply);
-    Ok(Taken { machine, over })
+    Taken { machine, over }
 }
