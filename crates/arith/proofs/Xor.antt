@@ -1,44 +1,7 @@
--- Laws of XOR that the library leaves: it associates, undoes itself and cancels; a number XOR itself shifted right is one to one.
-use Rattle.std.proofs.Common.{◌≡◌, ℕ, zero, suc, ◌+◌, ◌*◌, ◌/◌, ◌%◌, ◌^◌, ◌<◌, ◌≤◌, sym, refl, ap, ◌∙◌, subst, ap₂, one-add, arith, shr-shr}
-use lib.Arith.{bin_ind, digits_div, digits_mod}
-use lib.Bits.{bit_xor, differ, xor_comm, xor_self, xor_shr, xor_step, xor_zero_r}
+-- Laws of XOR that the library leaves: it undoes itself and cancels; a number XOR itself shifted right is one to one.
+use Rattle.std.proofs.Common.{◌≡◌, ℕ, suc, ◌/◌, ◌^◌, ◌≤◌, sym, ap, ◌∙◌, subst, one-add, arith, shr-shr}
+use lib.Bits.{bit_xor, xor_assoc, xor_comm, xor_self, xor_shr, xor_zero_r}
 use lib.Pow.{shr_le}
-
--- two binary digits
-differ_bit : (x y : ℕ) → x < 2 → y < 2 → differ x y < 2
-differ_bit zero y h l = l
-differ_bit (suc zero) zero h l = h
-differ_bit (suc zero) (suc zero) h l = omega arith
-differ_bit (suc zero) (suc (suc y)) h l = absurd (omega arith)
-differ_bit (suc (suc x)) y h l = absurd (omega arith)
-
-differ_assoc : (x y z : ℕ) → x < 2 → y < 2 → z < 2 → differ (differ x y) z ≡ differ x (differ y z)
-differ_assoc zero y z h l m = refl
-differ_assoc (suc zero) zero z h l m = refl
-differ_assoc (suc zero) (suc zero) zero h l m = refl
-differ_assoc (suc zero) (suc zero) (suc zero) h l m = refl
-differ_assoc (suc zero) (suc zero) (suc (suc z)) h l m = absurd (omega arith)
-differ_assoc (suc zero) (suc (suc y)) z h l m = absurd (omega arith)
-differ_assoc (suc (suc x)) y z h l m = absurd (omega arith)
-
-bit : (a : ℕ) → a % 2 < 2
-bit a = omega arith
-
-half : (a b : ℕ) → bit_xor a b / 2 ≡ bit_xor (a / 2) (b / 2)
-half a b = ap (λ (n : ℕ). n / 2) (xor_step a b) ∙ digits_div (bit_xor (a / 2) (b / 2)) (differ_bit (a % 2) (b % 2) (bit a) (bit b))
-
-odd : (a b : ℕ) → bit_xor a b % 2 ≡ differ (a % 2) (b % 2)
-odd a b = ap (λ (n : ℕ). n % 2) (xor_step a b) ∙ digits_mod (bit_xor (a / 2) (b / 2)) (differ_bit (a % 2) (b % 2) (bit a) (bit b))
-
-pub xor_assoc : (a b c : ℕ) → bit_xor (bit_xor a b) c ≡ bit_xor a (bit_xor b c)
-xor_assoc =
-    bin_ind (λ (n : ℕ). (b c : ℕ) → bit_xor (bit_xor n b) c ≡ bit_xor n (bit_xor b c)) (λ b c. refl)
-    (λ n ih b c.
-    xor_step (bit_xor n b) c
-    ∙ ap₂ (λ (x y : ℕ). bit_xor x (c / 2) * 2 + differ y (c % 2)) (half n b) (odd n b)
-    ∙ ap₂ (λ (x y : ℕ). x * 2 + y) (ih (b / 2) (c / 2)) (differ_assoc (n % 2) (b % 2) (c % 2) (bit n) (bit b) (bit c))
-    ∙ sym (ap₂ (λ (x y : ℕ). bit_xor (n / 2) x * 2 + differ (n % 2) y) (half b c) (odd b c))
-    ∙ sym (xor_step n (bit_xor b c)))
 
 -- a term taken in and out again
 pub xor_undo : (h t : ℕ) → bit_xor (bit_xor h t) t ≡ h

@@ -1,47 +1,73 @@
-// A call, told by its verb's number (src/verb.rt).
-use crate::cells::read_cells;
-use crate::edits::edit;
-use crate::keep::{read_form, store};
-use crate::measures::{measure, read_sheet};
-use crate::numbers::{Numbers, none};
-use crate::panels::{claim, mesh, read_lent, slice};
-use crate::sections::{read_header, read_sections};
+// A call, told by its group.
+use crate::answer::Answer;
+use crate::cells::CellRead;
+use crate::edits::Edit;
+use crate::fault::Fault;
+use crate::keep::FormCall;
+use crate::measures::SheetCall;
+use crate::panels::PanelCall;
+use crate::sections::{HeaderRead, SectionRead};
 use crate::stage::Stage;
-use crate::staging::set_stage;
-use crate::turn::Done;
+use crate::staging::{ListLine, ValueLine};
+use crate::words::Words;
 
-// What a call that changes nothing answers.
-fn read(s: Stage, verb: u64, a: Numbers) -> Numbers {
-    let v = s.volume;
-    match verb {
-        300..=399 => read_cells(s, verb, a),
-        400..=499 => read_header(v, verb, a),
-        500..=599 => {
-            let storage = s.storage;
-            let lent = s.lent;
-            read_sections(v, storage, lent, verb, a)
-        }
-        600..=699 => read_lent(s, verb, a),
-        800..=899 => read_form(s, verb, a),
-        _ => read_sheet(s, verb),
-    }
+#[derive(Clone, Copy)]
+pub(crate) enum Call {
+    Lists(ListLine),
+    Values(ValueLine),
+    Edit(Edit),
+    Cells(CellRead),
+    Header(HeaderRead),
+    Sections(SectionRead),
+    Panels(PanelCall),
+    Sheet(SheetCall),
+    Form(FormCall),
 }
 
-pub(crate) fn make(s: Stage, verb: u64, a: Numbers) -> Done {
-    match verb {
-        100..=199 => Done {
-            stage: set_stage(s, verb, a),
-            answer: none(),
-        },
-        200..=299 => edit(s, verb, a),
-        600..=601 => mesh(s, verb, a),
-        602 => slice(s, a),
-        603 => claim(s, a),
-        700..=701 => measure(s, verb, a),
-        800 => store(s),
-        _ => Done {
-            stage: s,
-            answer: read(s, verb, a),
-        },
+impl Call {
+    // The call of a name, with its arguments.
+    pub(crate) fn read(name: &[u8], words: Words) -> Result<Call, Fault> {
+        if let Some(call) = ListLine::read(name, words)? {
+            return Ok(Call::Lists(call));
+        }
+        if let Some(call) = ValueLine::read(name, words)? {
+            return Ok(Call::Values(call));
+        }
+        if let Some(call) = Edit::read(name, words)? {
+            return Ok(Call::Edit(call));
+        }
+        if let Some(call) = CellRead::read(name, words)? {
+            return Ok(Call::Cells(call));
+        }
+        if let Some(call) = HeaderRead::read(name, words)? {
+            return Ok(Call::Header(call));
+        }
+        if let Some(call) = SectionRead::read(name, words)? {
+            return Ok(Call::Sections(call));
+        }
+        if let Some(call) = PanelCall::read(name, words)? {
+            return Ok(Call::Panels(call));
+        }
+        if let Some(call) = SheetCall::read(name, words)? {
+            return Ok(Call::Sheet(call));
+        }
+        if let Some(call) = FormCall::read(name, words)? {
+            return Ok(Call::Form(call));
+        }
+        Err(Fault::Unknown)
+    }
+
+    pub(crate) fn make(self, stage: &mut Stage) -> Answer {
+        match self {
+            Call::Lists(call) => call.make(stage),
+            Call::Values(call) => call.make(stage),
+            Call::Edit(call) => call.make(stage),
+            Call::Cells(call) => call.make(stage),
+            Call::Header(call) => call.make(stage),
+            Call::Sections(call) => call.make(stage),
+            Call::Panels(call) => call.make(stage),
+            Call::Sheet(call) => call.make(stage),
+            Call::Form(call) => call.make(stage),
+        }
     }
 }

@@ -1,53 +1,34 @@
 // An answer against the one that a line gives.
-use crate::numbers::{Numbers, and, one};
-use crate::read::{FOLD, NONE};
-use crate::show::{numbers, text, which};
-use std::io::Write;
+use crate::answer::Answer;
+use crate::word::Word;
+use std::fmt;
 
-fn same(a: Numbers, b: Numbers) -> bool {
-    if a.count != b.count {
-        return false;
-    }
-    let x = a.list;
-    let y = b.list;
-    let mut i = 0;
-    while i < 64 {
-        if x[i] != y[i] {
-            return false;
-        }
-        i += 1;
-    }
-    a.fold == b.fold
+// An answer that came where another was expected.
+#[derive(Clone, Copy)]
+pub(crate) struct Difference {
+    expected: Answer,
+    came: Answer,
 }
 
-// The answer in the form that the line gives: folded, or its numbers, NONE where it has none.
-fn in_form(expected: Numbers, answer: Numbers) -> Numbers {
-    let list = expected.list;
-    if list[0] == FOLD {
-        return and(one(FOLD), answer.fold);
+impl fmt::Display for Difference {
+    fn fmt<W: fmt::Write>(&self, f: &mut fmt::Formatter<W>) -> fmt::Result {
+        write!(f, "expected{}, came{}", self.expected, self.came)
     }
-    if answer.count == 0 {
-        return one(NONE);
+}
+
+// The answer in the form that the line gives: folded, or its words, "none" where it has none.
+fn in_form(expected: &Answer, answer: Answer) -> Answer {
+    if expected.first() == Word::Fold {
+        return Answer::of(Word::Fold).and(answer.fold);
+    }
+    if answer.is_empty() {
+        return Answer::of(Word::None);
     }
     answer
 }
 
-// Whether an answer is the one that line number `line` gives; it prints both where it is not.
-pub(crate) fn agrees<W: Write>(
-    output: &mut W,
-    line: u64,
-    expected: Numbers,
-    answer: Numbers,
-) -> bool {
-    let came = in_form(expected, answer);
-    if same(expected, came) {
-        return true;
-    }
-    which(output, line);
-    text(output, b"expected");
-    numbers(output, expected);
-    text(output, b", came");
-    numbers(output, came);
-    text(output, b"\n");
-    false
+// None where the answer is the one that the line gives.
+pub(crate) fn compare(expected: Answer, answer: Answer) -> Option<Difference> {
+    let came = in_form(&expected, answer);
+    (expected != came).then_some(Difference { expected, came })
 }

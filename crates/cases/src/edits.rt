@@ -1,104 +1,132 @@
 // Opening, set, fill and loading.
-use crate::args::{cell, extent, short};
-use crate::lend::{lend16, lend32, lend64, some_bytes};
-use crate::numbers::{Numbers, and_extent, none, one};
+use crate::answer::Answer;
+use crate::args::{Args, bare};
+use crate::fault::Fault;
 use crate::replies::said;
 use crate::stage::{Stage, Storage};
-use crate::turn::Done;
+use crate::words::Words;
 use exports::edit::{Edited, Opened, stand_fill, stand_open, stand_set};
 use exports::keep::stand_load;
-use stand::volume::Volume;
+use stand::Cell;
+use stand::volume::{Extent, Volume};
 
-// A refused opening keeps the stand.
-fn opened(old: Volume, r: Opened) -> Edited {
-    let mut volume = r.volume;
-    if r.code != 0 {
-        volume = old;
+#[derive(Clone, Copy)]
+pub(crate) enum Edit {
+    Open(Cell, Extent),
+    Set(Cell, u16),
+    Fill(Cell, Cell, u16),
+    Load,
+}
+
+// Kept: four calls that lend the same five lists, since the C interface takes them one by one.
+impl Storage {
+    fn open(&mut self, origin: Cell, size: Extent) -> Opened {
+        stand_open(
+            origin,
+            size,
+            self.cells.entries_mut(),
+            self.hashes.entries_mut(),
+            self.versions.entries_mut(),
+            self.log.entries_mut(),
+            self.last.entries_mut(),
+        )
     }
-    Edited {
-        code: r.code,
-        changed: 0,
-        volume,
+
+    fn load(&mut self, form: &[u8]) -> Opened {
+        stand_load(
+            form,
+            self.cells.entries_mut(),
+            self.hashes.entries_mut(),
+            self.versions.entries_mut(),
+            self.log.entries_mut(),
+            self.last.entries_mut(),
+        )
+    }
+
+    fn set(&mut self, v: Volume, at: Cell, finish: u16) -> Edited {
+        stand_set(
+            v,
+            self.cells.entries_mut(),
+            self.hashes.entries_mut(),
+            self.versions.entries_mut(),
+            self.log.entries_mut(),
+            self.last.entries_mut(),
+            at,
+            finish,
+        )
+    }
+
+    fn fill(&mut self, v: Volume, from: Cell, to: Cell, finish: u16) -> Edited {
+        stand_fill(
+            v,
+            self.cells.entries_mut(),
+            self.hashes.entries_mut(),
+            self.versions.entries_mut(),
+            self.log.entries_mut(),
+            self.last.entries_mut(),
+            from,
+            to,
+            finish,
+        )
     }
 }
 
-fn edit_lent(
-    v: Volume,
-    verb: u64,
-    a: Numbers,
-    form: &[u8],
-    cells: &mut [u16],
-    hashes: &mut [u64],
-    versions: &mut [u32],
-    log: &mut [u32],
-    last: &mut [u64],
-) -> Edited {
-    let at = cell(a, 0);
-    if verb == 201 {
-        let finish = short(a, 3);
-        return stand_set(v, cells, hashes, versions, log, last, at, finish);
+impl Stage {
+    // The size of a stand just opened or loaded; a refused one keeps the stand.
+    // Kept: a code of 0 is tested, since the reply is the C interface's.
+    fn opened(&mut self, r: Opened) -> Answer {
+        if r.code == 0 {
+            self.volume = r.volume;
+        }
+        said(r.code, Answer::of(r.volume.size))
     }
-    if verb == 202 {
-        let to = cell(a, 3);
-        let finish = short(a, 6);
-        return stand_fill(v, cells, hashes, versions, log, last, at, to, finish);
+
+    // How many cells changed.
+    fn edited(&mut self, r: Edited) -> Answer {
+        self.volume = r.volume;
+        said(r.code, Answer::of(r.changed))
     }
-    if verb == 203 {
-        return opened(v, stand_load(form, cells, hashes, versions, log, last));
-    }
-    let size = extent(a, 3);
-    opened(v, stand_open(at, size, cells, hashes, versions, log, last))
 }
 
-// The size of a stand just opened or loaded; else how many cells changed.
-fn edited(verb: u64, e: Edited) -> Numbers {
-    if verb == 200 || verb == 203 {
-        let v = e.volume;
-        let size = v.size;
-        return said(e.code, and_extent(none(), size));
+impl Edit {
+    pub(crate) fn read(name: &[u8], words: Words) -> Result<Option<Edit>, Fault> {
+        Ok(Some(match name {
+            b"open" => {
+                let a = Args::read(words, 6)?;
+                Edit::Open(a.cell(0)?, a.extent(3)?)
+            }
+            b"set" => {
+                let a = Args::read(words, 4)?;
+                Edit::Set(a.cell(0)?, a.get(3)?)
+            }
+            b"fill" => {
+                let a = Args::read(words, 7)?;
+                Edit::Fill(a.cell(0)?, a.cell(3)?, a.get(6)?)
+            }
+            b"load" => bare(words, Edit::Load)?,
+            _ => return Ok(None),
+        }))
     }
-    said(e.code, one(e.changed))
-}
 
-pub(crate) fn edit(s: Stage, verb: u64, a: Numbers) -> Done {
-    let old = s.storage;
-    let lent = s.lent;
-    let mut cells = old.cells;
-    let some_cells = lend16(&mut cells, lent.cells);
-    let mut hashes = old.hashes;
-    let some_hashes = lend64(&mut hashes, lent.hashes);
-    let mut versions = old.versions;
-    let some_versions = lend32(&mut versions, lent.versions);
-    let mut log = old.log;
-    let some_log = lend32(&mut log, lent.log);
-    let mut last = old.last;
-    let some_last = lend64(&mut last, lent.last);
-    let form = s.form;
-    let v = s.volume;
-    let e = edit_lent(
-        v,
-        verb,
-        a,
-        some_bytes(&form, lent.form),
-        some_cells,
-        some_hashes,
-        some_versions,
-        some_log,
-        some_last,
-    );
-    let volume = e.volume;
-    let storage = Storage {
-        cells,
-        hashes,
-        versions,
-        log,
-        last,
-    };
-    let mut stage = s;
-    stage.volume = volume;
-    stage.storage = storage;
-    Done {
-        stage,
-        answer: edited(verb, e),
+    pub(crate) fn make(self, stage: &mut Stage) -> Answer {
+        let v = stage.volume;
+        match self {
+            Edit::Open(origin, size) => {
+                let r = stage.storage.open(origin, size);
+                stage.opened(r)
+            }
+            Edit::Set(at, finish) => {
+                let r = stage.storage.set(v, at, finish);
+                stage.edited(r)
+            }
+            Edit::Fill(from, to, finish) => {
+                let r = stage.storage.fill(v, from, to, finish);
+                stage.edited(r)
+            }
+            Edit::Load => {
+                let r = stage.storage.load(stage.form.entries());
+                stage.opened(r)
+            }
+        }
     }
 }

@@ -1,42 +1,48 @@
 // Calls with the answers they must have, read as a text, made and compared (docs/CASES.md).
 #![tactic(auto)]
 
+mod answer;
 mod args;
 mod call;
 mod cells;
 mod compare;
 mod edits;
-mod input;
+mod fault;
 mod keep;
-mod lend;
+mod list;
 mod measures;
-mod numbers;
 mod panels;
 mod parse;
-mod read;
 mod replies;
 mod sections;
-mod show;
 mod stage;
 mod staging;
 mod turn;
-mod verb;
+mod word;
 mod words;
 
+use stage::Stage;
 use std::io;
+use std::io::Write;
+use turn::turn;
 
-// Makes the calls of the lines, one after another, until they end or one is no call.
+// Makes the calls of the lines, one after another, until they end or one is no call: after it no answer would be right.
 fn main(rt: HostRuntime) {
     let mut input = rt.stdin();
     let mut output = io::writer(&rt);
-    let mut stage = stage::first();
-    let mut line: u64 = 0;
+    let mut stage = Stage::first();
     // More lines than a text can have.
-    while line < 0xffff_ffff_ffff_ffff {
-        line += 1;
-        stage = turn::turn(&mut input, &mut output, line, stage);
-        if stage.over {
-            return;
+    for number in 1..=u64::MAX {
+        match turn(&mut input, &mut output, number, &mut stage) {
+            Ok(true) => {}
+            Ok(false) => {
+                let _ = writeln!(output, "{}", stage.tally);
+                return;
+            }
+            Err(fault) => {
+                let _ = writeln!(output, "line {number}: {fault}");
+                return;
+            }
         }
     }
 }

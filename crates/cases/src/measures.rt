@@ -1,78 +1,81 @@
 // The sheet: opening, refresh and totals.
-use crate::args::rule;
-use crate::lend::{lend16, lend64, some_cells, some32, some64};
-use crate::numbers::{Numbers, and, and_u64, none, one};
-use crate::replies::said;
+use crate::answer::Answer;
+use crate::args::{Args, Rule, bare};
+use crate::fault::Fault;
 use crate::stage::Stage;
-use crate::turn::Done;
+use crate::words::Words;
 use exports::prices::{Marked, stand_open_sheet, stand_refresh, stand_totals};
-use stand::volume::Volume;
 
-fn measure_lent(
-    v: Volume,
-    mark: u64,
-    verb: u64,
-    cells: &[u16],
-    log: &[u32],
-    last: &[u64],
-    rates: &[u32],
-    cut: u32,
-    rule: u32,
-    mask: &mut [u16],
-    sheet: &mut [u64],
-) -> Marked {
-    if verb == 700 {
-        return stand_open_sheet(v, mark, cells, rates, cut, rule, mask, sheet);
-    }
-    stand_refresh(v, mark, cells, log, last, rates, cut, rule, mask, sheet)
+#[derive(Clone, Copy)]
+pub(crate) enum SheetCall {
+    Open(Rule),
+    Refresh(Rule),
+    Totals,
+    Rows,
+    Marked,
 }
 
-// The sheet opened or refreshed.
-pub(crate) fn measure(s: Stage, verb: u64, a: Numbers) -> Done {
-    let v = s.volume;
-    let lent = s.lent;
-    let storage = s.storage;
-    let cells = storage.cells;
-    let log = storage.log;
-    let last = storage.last;
-    let rates = s.rates;
-    let mut mask = s.mask;
-    let slots = lend16(&mut mask, lent.mask);
-    let mut sheet = s.sheet;
-    let rows = lend64(&mut sheet, lent.sheet);
-    let r = measure_lent(
-        v,
-        s.mark,
-        verb,
-        some_cells(&cells, lent.cells),
-        some32(&log, lent.log),
-        some64(&last, lent.last),
-        some32(&rates, lent.rates),
-        s.cut,
-        rule(a, 0),
-        slots,
-        rows,
-    );
-    let mut stage = s;
-    stage.mask = mask;
-    stage.sheet = sheet;
-    stage.mark = r.mark;
-    Done {
-        stage,
-        answer: said(r.code, one(r.mark)),
+impl Stage {
+    fn open_sheet(&mut self, rule: Rule) -> Marked {
+        stand_open_sheet(
+            self.volume,
+            self.mark,
+            self.storage.cells.entries(),
+            self.rates.entries(),
+            self.cut,
+            rule as u32,
+            self.mask.entries_mut(),
+            self.sheet.entries_mut(),
+        )
+    }
+
+    fn refresh(&mut self, rule: Rule) -> Marked {
+        stand_refresh(
+            self.volume,
+            self.mark,
+            self.storage.cells.entries(),
+            self.storage.log.entries(),
+            self.storage.last.entries(),
+            self.rates.entries(),
+            self.cut,
+            rule as u32,
+            self.mask.entries_mut(),
+            self.sheet.entries_mut(),
+        )
+    }
+
+    // The sheet opened or refreshed.
+    fn measured(&mut self, r: Marked) -> Answer {
+        self.mark = r.mark;
+        r.into()
     }
 }
 
-pub(crate) fn read_sheet(s: Stage, verb: u64) -> Numbers {
-    let v = s.volume;
-    let lent = s.lent;
-    let sheet = s.sheet;
-    if verb == 710 {
-        let t = stand_totals(v, some64(&sheet, lent.sheet));
-        return said(t.code, and(and(one(t.panels), t.faces), t.cents));
+impl SheetCall {
+    pub(crate) fn read(name: &[u8], words: Words) -> Result<Option<SheetCall>, Fault> {
+        Ok(Some(match name {
+            b"open-sheet" => SheetCall::Open(Args::read(words, 1)?.rule(0)?),
+            b"refresh" => SheetCall::Refresh(Args::read(words, 1)?.rule(0)?),
+            b"totals" => bare(words, SheetCall::Totals)?,
+            b"rows" => bare(words, SheetCall::Rows)?,
+            b"marked" => bare(words, SheetCall::Marked)?,
+            _ => return Ok(None),
+        }))
     }
-    if verb == 711 {
-        return and_u64(none(), some64(&sheet, lent.sheet));
+
+    pub(crate) fn make(self, stage: &mut Stage) -> Answer {
+        match self {
+            SheetCall::Open(rule) => {
+                let r = stage.open_sheet(rule);
+                stage.measured(r)
+            }
+            SheetCall::Refresh(rule) => {
+                let r = stage.refresh(rule);
+                stage.measured(r)
+            }
+            SheetCall::Totals => stand_totals(stage.volume, stage.sheet.entries()).into(),
+            SheetCall::Rows => Answer::of(stage.sheet.entries()),
+            SheetCall::Marked => Answer::of(stage.mark),
+        }
     }
-    one(s.mark)
 }

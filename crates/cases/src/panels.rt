@@ -1,136 +1,144 @@
 // Panels, slices, and what mask and list hold.
-use crate::args::{cents, count, rule};
-use crate::lend::{lend_list, lend16, some_cells, some_numbers, some_slots};
-use crate::numbers::{Numbers, and, and_cell, and_extent, and_i32, and_u16, none};
-use crate::replies::{number, said};
+use crate::answer::Answer;
+use crate::args::{Args, Rule, bare, one};
+use crate::fault::Fault;
 use crate::stage::Stage;
-use crate::turn::Done;
+use crate::words::Words;
 use exports::panels::{stand_chunk_faces, stand_faces};
 use exports::reply::Number;
 use exports::slices::{PanelGiven, Sliced, stand_chunk_slice, stand_claim};
-use stand::volume::Volume;
 
-// 11 adds the panels needed.
-fn meshed(r: Number) -> Numbers {
-    if r.code == 11 {
-        return and(number(r), r.value);
-    }
-    number(r)
+#[derive(Clone, Copy)]
+pub(crate) enum PanelCall {
+    // A section's.
+    Panels(usize, Rule),
+    // The whole stand's.
+    Whole(Rule),
+    Slice(SectionSlice),
+    Claim(usize),
+    Panel(usize),
+    Slots,
+    Numbers,
 }
 
-fn mesh_lent(
-    v: Volume,
-    cells: &[u16],
-    verb: u64,
-    a: Numbers,
-    mask: &mut [u16],
-    list: &mut [i32],
-) -> Number {
-    if verb == 600 {
-        return stand_chunk_faces(v, cells, count(a, 0), rule(a, 1), mask, list);
-    }
-    stand_faces(v, cells, rule(a, 0), mask, list)
+// A slice of a section's side, and the outside rule.
+// Kept: the side is its number, since the C interface takes that.
+#[derive(Clone, Copy)]
+pub(crate) struct SectionSlice {
+    section: usize,
+    side: u32,
+    slice: usize,
+    rule: Rule,
 }
 
-// The panels of a section or of the whole stand.
-pub(crate) fn mesh(s: Stage, verb: u64, a: Numbers) -> Done {
-    let v = s.volume;
-    let lent = s.lent;
-    let storage = s.storage;
-    let cells = storage.cells;
-    let mut mask = s.mask;
-    let slots = lend16(&mut mask, lent.mask);
-    let mut list = s.list;
-    let numbers = lend_list(&mut list, lent.list);
-    let r = mesh_lent(v, some_cells(&cells, lent.cells), verb, a, slots, numbers);
-    let mut stage = s;
-    stage.mask = mask;
-    stage.list = list;
-    Done {
-        stage,
-        answer: meshed(r),
-    }
+fn read_slice(words: Words) -> Result<SectionSlice, Fault> {
+    let a = Args::read(words, 4)?;
+    Ok(SectionSlice {
+        section: a.get(0)?,
+        side: a.at_most(1, 5)?,
+        slice: a.get(2)?,
+        rule: a.rule(3)?,
+    })
 }
 
-// The lowest cell of a slice, and its slots along first and second.
-fn laid(r: Sliced) -> Numbers {
-    let s = r.slice;
-    let c = s.cell;
-    said(r.code, and(and(and_cell(none(), c), s.width), s.height))
-}
+// The refusal that adds the panels needed.
+const TOO_SHORT: u32 = 11;
 
-// A slice of a section laid into the mask.
-pub(crate) fn slice(s: Stage, a: Numbers) -> Done {
-    let v = s.volume;
-    let lent = s.lent;
-    let storage = s.storage;
-    let cells = storage.cells;
-    let mut mask = s.mask;
-    let slots = lend16(&mut mask, lent.mask);
-    let r = stand_chunk_slice(
-        v,
-        some_cells(&cells, lent.cells),
-        count(a, 0),
-        cents(a, 1),
-        count(a, 2),
-        rule(a, 3),
-        slots,
-    );
-    let slice = r.slice;
-    let mut stage = s;
-    stage.mask = mask;
-    stage.slice = slice;
-    Done {
-        stage,
-        answer: laid(r),
+fn meshed(r: Number) -> Answer {
+    if r.code == TOO_SHORT {
+        return Answer::refused(r.code).and(r.value);
     }
+    r.into()
 }
 
 // The eight numbers of a panel, and the next slot.
-fn claimed(p: PanelGiven) -> Numbers {
+// Kept: `given` is tested, since the reply is the C interface's.
+fn claimed(p: PanelGiven) -> Answer {
     if p.given == 0 {
-        return none();
+        return Answer::none();
     }
-    let c = p.cell;
-    let e = p.extent;
-    let finish = and(and(and_cell(none(), c), p.side as u64), p.finish as u64);
-    and(and_extent(finish, e), p.next)
-}
-
-// The next panel of the slice laid last.
-pub(crate) fn claim(s: Stage, a: Numbers) -> Done {
-    let slice = s.slice;
-    let lent = s.lent;
-    let mut mask = s.mask;
-    let p = stand_claim(slice, lend16(&mut mask, lent.mask), count(a, 0));
-    let mut stage = s;
-    stage.mask = mask;
-    Done {
-        stage,
-        answer: claimed(p),
-    }
+    Answer::of(p.cell)
+        .and(p.side)
+        .and(p.finish)
+        .and(p.extent)
+        .and(p.next)
 }
 
 // The panel number i of a list.
-fn panel_at(list: &[i32], i: usize) -> Numbers {
-    if list.len() / 8 <= i {
-        return none();
-    }
-    let at = i * 8;
-    let end = at + 8;
-    and_i32(none(), &list[at..end])
+fn panel_at(list: &[i32], i: usize) -> Answer {
+    list.chunks_exact(8)
+        .nth(i)
+        .map_or(Answer::none(), |panel| Answer::of(panel))
 }
 
-// What mask and list hold.
-pub(crate) fn read_lent(s: Stage, verb: u64, a: Numbers) -> Numbers {
-    let lent = s.lent;
-    if verb == 611 {
-        let mask = s.mask;
-        return and_u16(none(), some_slots(&mask, lent.mask));
+impl Stage {
+    // The panels of a section.
+    fn mesh_section(&mut self, section: usize, rule: Rule) -> Number {
+        stand_chunk_faces(
+            self.volume,
+            self.storage.cells.entries(),
+            section,
+            rule as u32,
+            self.mask.entries_mut(),
+            self.list.entries_mut(),
+        )
     }
-    let list = s.list;
-    if verb == 610 {
-        return panel_at(some_numbers(&list, lent.list), count(a, 0));
+
+    // The panels of the whole stand.
+    fn mesh(&mut self, rule: Rule) -> Number {
+        stand_faces(
+            self.volume,
+            self.storage.cells.entries(),
+            rule as u32,
+            self.mask.entries_mut(),
+            self.list.entries_mut(),
+        )
     }
-    and_i32(none(), some_numbers(&list, lent.list))
+
+    // A slice of a section laid into the mask.
+    fn lay(&mut self, slice: SectionSlice) -> Sliced {
+        let r = stand_chunk_slice(
+            self.volume,
+            self.storage.cells.entries(),
+            slice.section,
+            slice.side,
+            slice.slice,
+            slice.rule as u32,
+            self.mask.entries_mut(),
+        );
+        self.slice = r.slice;
+        r
+    }
+}
+
+impl PanelCall {
+    pub(crate) fn read(name: &[u8], words: Words) -> Result<Option<PanelCall>, Fault> {
+        Ok(Some(match name {
+            b"panels" => {
+                let a = Args::read(words, 2)?;
+                PanelCall::Panels(a.get(0)?, a.rule(1)?)
+            }
+            b"whole" => PanelCall::Whole(Args::read(words, 1)?.rule(0)?),
+            b"slice" => PanelCall::Slice(read_slice(words)?),
+            b"claim" => PanelCall::Claim(one(words)?),
+            b"panel" => PanelCall::Panel(one(words)?),
+            b"slots" => bare(words, PanelCall::Slots)?,
+            b"numbers" => bare(words, PanelCall::Numbers)?,
+            _ => return Ok(None),
+        }))
+    }
+
+    pub(crate) fn make(self, stage: &mut Stage) -> Answer {
+        match self {
+            PanelCall::Panels(section, rule) => meshed(stage.mesh_section(section, rule)),
+            PanelCall::Whole(rule) => meshed(stage.mesh(rule)),
+            PanelCall::Slice(slice) => stage.lay(slice).into(),
+            PanelCall::Claim(from) => {
+                claimed(stand_claim(stage.slice, stage.mask.entries_mut(), from))
+            }
+            PanelCall::Panel(i) => panel_at(stage.list.entries(), i),
+            PanelCall::Slots => Answer::of(stage.mask.entries()),
+            PanelCall::Numbers => Answer::of(stage.list.entries()),
+        }
+    }
 }

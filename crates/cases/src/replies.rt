@@ -1,26 +1,51 @@
-// Replies as numbers.
-use crate::numbers::{Numbers, and, and_cell, and_extent, none, one};
-use crate::read::REFUSED;
+// Replies as answers: what was accepted, or the refusal.
+// Kept: a code of 0 is "accepted" and `given` a flag here and where the calls are made, since the replies are those of the C interface.
+use crate::answer::Answer;
+use exports::prices::{Marked, Sums};
 use exports::reply::{Number, Place, Span};
+use exports::slices::Sliced;
 
-// What was accepted, or the refusal.
-pub(crate) fn said(code: u32, n: Numbers) -> Numbers {
+pub(crate) fn said(code: u32, accepted: Answer) -> Answer {
     if code == 0 {
-        return n;
+        return accepted;
     }
-    and(one(REFUSED), code as u64)
+    Answer::refused(code)
 }
 
-pub(crate) fn number(r: Number) -> Numbers {
-    said(r.code, one(r.value))
+impl From<Number> for Answer {
+    fn from(r: Number) -> Answer {
+        said(r.code, Answer::of(r.value))
+    }
 }
 
-pub(crate) fn place(r: Place) -> Numbers {
-    let c = r.cell;
-    said(r.code, and_cell(none(), c))
+impl From<Place> for Answer {
+    fn from(r: Place) -> Answer {
+        said(r.code, Answer::of(r.cell))
+    }
 }
 
-pub(crate) fn span(r: Span) -> Numbers {
-    let e = r.extent;
-    said(r.code, and_extent(none(), e))
+impl From<Span> for Answer {
+    fn from(r: Span) -> Answer {
+        said(r.code, Answer::of(r.extent))
+    }
+}
+
+impl From<Marked> for Answer {
+    fn from(r: Marked) -> Answer {
+        said(r.code, Answer::of(r.mark))
+    }
+}
+
+impl From<Sums> for Answer {
+    fn from(r: Sums) -> Answer {
+        said(r.code, Answer::of(r.panels).and(r.faces).and(r.cents))
+    }
+}
+
+// The lowest cell of a slice, and its slots along first and second.
+impl From<Sliced> for Answer {
+    fn from(r: Sliced) -> Answer {
+        let s = r.slice;
+        said(r.code, Answer::of(s.cell).and(s.width).and(s.height))
+    }
 }

@@ -1,116 +1,120 @@
 // What is kept from line to line.
+use crate::list::List;
 use exports::slices::SideSlice;
 use stand::Cell;
-use stand::volume::{Extent, Volume};
+use stand::volume::Volume;
+use std::fmt;
 
-#[derive(Clone, Copy)]
+// The most sections that storage is kept for.
+pub(crate) const SECTIONS: usize = 4;
+
+pub(crate) const CELLS: usize = 16384;
+
+pub(crate) const SLOTS: usize = 1024;
+
+pub(crate) const NUMBERS: usize = 400;
+
+pub(crate) const RATES: usize = 64;
+
+pub(crate) const ROWS: usize = 12;
+
+pub(crate) const BYTES: usize = 4096;
+
+// Each list has an entry for each section, but for the cells.
+// Kept: lists side by side, since the C interface takes them one by one.
+#[derive(Drop)]
 pub(crate) struct Storage {
-    pub cells: [u16; 16384],
-    pub hashes: [u64; 12],
-    pub versions: [u32; 64],
-    pub log: [u32; 64],
-    pub last: [u64; 12],
-}
-
-// How many entries of each list a call is lent.
-#[derive(Clone, Copy)]
-pub(crate) struct Lent {
-    pub cells: usize,
-    pub hashes: usize,
-    pub versions: usize,
-    pub log: usize,
-    pub last: usize,
-    pub mask: usize,
-    pub list: usize,
-    pub rates: usize,
-    pub sheet: usize,
-    pub form: usize,
+    pub cells: List<u16, CELLS>,
+    pub hashes: List<u64, SECTIONS>,
+    pub versions: List<u32, SECTIONS>,
+    pub log: List<u32, SECTIONS>,
+    pub last: List<u64, SECTIONS>,
 }
 
 // Calls made, answers compared, and those that differ.
-#[derive(Clone, Copy)]
+#[derive(Clone, Copy, Default)]
 pub(crate) struct Tally {
     pub calls: u64,
     pub compared: u64,
     pub differ: u64,
 }
 
-#[derive(Clone, Copy)]
+impl fmt::Display for Tally {
+    fn fmt<W: fmt::Write>(&self, f: &mut fmt::Formatter<W>) -> fmt::Result {
+        write!(
+            f,
+            "{} calls, {} answers compared, {} differ",
+            self.calls, self.compared, self.differ
+        )
+    }
+}
+
+// Calls are lent the entries of its lists.
+#[derive(Drop)]
 pub(crate) struct Stage {
     pub volume: Volume,
     pub storage: Storage,
-    pub lent: Lent,
-    pub mask: [u16; 1024],
-    pub list: [i32; 400],
+    pub mask: List<u16, SLOTS>,
+    pub list: List<i32, NUMBERS>,
     pub slice: SideSlice,
-    pub rates: [u32; 64],
+    pub rates: List<u32, RATES>,
     pub cut: u32,
-    pub sheet: [u64; 12],
+    pub sheet: List<u64, ROWS>,
     pub mark: u64,
-    pub form: [u8; 4096],
+    pub form: List<u8, BYTES>,
     pub tally: Tally,
-    // Whether the text is over.
-    pub over: bool,
 }
 
-// A header that no opening gives: calls before the first opening are refused by 3.
-fn unopened() -> Volume {
-    let none = Extent { x: 0, y: 0, z: 0 };
-    Volume {
-        origin: Cell { x: 0, y: 0, z: 0 },
-        chunks: none,
-        size: none,
-        generation: 0,
-        solid: 0,
+impl Storage {
+    // For no section.
+    fn none() -> Storage {
+        Storage {
+            cells: List::of(0, 0),
+            hashes: List::of(0, 0),
+            versions: List::of(0, 0),
+            log: List::of(0, 0),
+            last: List::of(0, 0),
+        }
+    }
+
+    // New lengths, in order.
+    pub(crate) fn resize(&mut self, lengths: [usize; 5]) {
+        let [cells, hashes, versions, log, last] = lengths;
+        self.cells.resize(cells);
+        self.hashes.resize(hashes);
+        self.versions.resize(versions);
+        self.log.resize(log);
+        self.last.resize(last);
     }
 }
 
-fn unlent() -> Lent {
-    Lent {
-        cells: 0,
-        hashes: 0,
-        versions: 0,
-        log: 0,
-        last: 0,
-        mask: 1024,
-        list: 400,
-        rates: 64,
-        sheet: 0,
-        form: 0,
+impl Stage {
+    // Before the first line: a header of zeros is none that opening gives, and refused by 3.
+    pub(crate) fn first() -> Stage {
+        Stage {
+            volume: Volume::default(),
+            storage: Storage::none(),
+            mask: List::of(0, SLOTS),
+            list: List::of(0, NUMBERS),
+            slice: SideSlice {
+                cell: Cell::default(),
+                side: 0,
+                width: 0,
+                height: 0,
+            },
+            rates: List::of(u32::MAX, RATES),
+            cut: 0,
+            sheet: List::of(0, 0),
+            mark: 0,
+            form: List::of(0, 0),
+            tally: Tally::default(),
+        }
     }
-}
 
-// Before the first line.
-pub(crate) fn first() -> Stage {
-    let storage = Storage {
-        cells: [0u16; 16384],
-        hashes: [0u64; 12],
-        versions: [0u32; 64],
-        log: [0u32; 64],
-        last: [0u64; 12],
-    };
-    Stage {
-        volume: unopened(),
-        storage,
-        lent: unlent(),
-        mask: [0u16; 1024],
-        list: [0i32; 400],
-        slice: SideSlice {
-            cell: Cell { x: 0, y: 0, z: 0 },
-            side: 0,
-            width: 0,
-            height: 0,
-        },
-        rates: [4_294_967_295u32; 64],
-        cut: 0,
-        sheet: [0u64; 12],
-        mark: 0,
-        form: [0u8; 4096],
-        tally: Tally {
-            calls: 0,
-            compared: 0,
-            differ: 0,
-        },
-        over: false,
+    // Storage and a sheet for as many sections.
+    pub(crate) fn lend(&mut self, sections: usize) {
+        let n = sections.min(SECTIONS);
+        self.storage.resize([n * 4096, n, n, n, n]);
+        self.sheet.resize(n * 3);
     }
 }

@@ -1,149 +1,146 @@
-// Lines that set what later calls are lent.
-use crate::args::{arg, byte, cell, cents, coordinate, count, extent, short};
-use crate::numbers::Numbers;
-use crate::stage::{Lent, Stage};
+// Lines that set what later calls are lent, and what they are told.
+use crate::answer::Answer;
+use crate::args::{Args, one, place_and_bytes};
+use crate::fault::Fault;
+use crate::list::List;
+use crate::stage::{BYTES, CELLS, NUMBERS, RATES, ROWS, SECTIONS, SLOTS, Stage};
+use crate::words::Words;
 use exports::slices::SideSlice;
 use stand::volume::Volume;
 
-// Storage and a sheet for as many sections, at most 4.
-fn for_sections(old: Lent, n: u64) -> Lent {
-    let k = (n % 5) as usize;
-    let mut lent = old;
-    lent.cells = k * 4096;
-    lent.hashes = k;
-    lent.versions = k;
-    lent.log = k;
-    lent.last = k;
-    lent.sheet = k * 3;
-    lent
-}
-
-fn lent_by(old: Lent, verb: u64, a: Numbers) -> Lent {
-    let n = count(a, 0);
-    let mut lent = old;
-    match verb {
-        100 => return for_sections(old, arg(a, 0)),
-        101 => {
-            lent.cells = n;
-            lent.hashes = count(a, 1);
-            lent.versions = count(a, 2);
-            lent.log = count(a, 3);
-            lent.last = count(a, 4);
-        }
-        102 => lent.mask = n,
-        103 => lent.list = n,
-        104 => lent.sheet = n,
-        106 => lent.form = n,
-        _ => lent.rates = n,
-    }
-    lent
-}
-
 // New lengths; mask, list, sheet and form hold a number in each place.
-fn lend(s: Stage, verb: u64, a: Numbers) -> Stage {
-    let old = s.lent;
-    let lent = lent_by(old, verb, a);
-    let mut next = s;
-    next.lent = lent;
-    if verb == 102 {
-        next.mask = [short(a, 1); 1024];
-    }
-    if verb == 103 {
-        next.list = [coordinate(a, 1); 400];
-    }
-    if verb == 104 {
-        next.sheet = [arg(a, 1); 12];
-    }
-    if verb == 106 {
-        next.form = [byte(a, 1); 4096];
-    }
-    next
+#[derive(Clone, Copy)]
+pub(crate) enum ListLine {
+    Lend(usize),
+    Storage([usize; 5]),
+    Mask(usize, u16),
+    List(usize, i32),
+    Sheet(usize, u64),
+    Rates(usize),
+    Form(usize, u8),
+    Put(usize, List<u8, 60>),
 }
 
-// A rate, the cut or the mark.
-fn price(s: Stage, verb: u64, a: Numbers) -> Stage {
-    let mut next = s;
-    if verb == 110 {
-        next.cut = cents(a, 0);
-        return next;
-    }
-    if verb == 111 {
-        next.mark = arg(a, 0);
-        return next;
-    }
-    let finish = count(a, 0);
-    let mut rates = s.rates;
-    if finish < 64 {
-        rates[finish] = cents(a, 1);
-    }
-    next.rates = rates;
-    next
+#[derive(Clone, Copy)]
+pub(crate) enum ValueLine {
+    Cut(u32),
+    Mark(u64),
+    Rate(usize, u32),
+    Header(Volume),
+    Plane(SideSlice),
 }
 
-// A header of any numbers.
-fn header(s: Stage, a: Numbers) -> Stage {
-    let origin = cell(a, 0);
-    let chunks = extent(a, 3);
-    let size = extent(a, 6);
-    let volume = Volume {
-        origin,
-        chunks,
-        size,
-        generation: arg(a, 9),
-        solid: arg(a, 10),
-    };
-    let mut next = s;
-    next.volume = volume;
-    next
+fn read_storage(words: Words) -> Result<[usize; 5], Fault> {
+    let a = Args::read(words, 5)?;
+    Ok([
+        a.at_most(0, CELLS)?,
+        a.at_most(1, SECTIONS)?,
+        a.at_most(2, SECTIONS)?,
+        a.at_most(3, SECTIONS)?,
+        a.at_most(4, SECTIONS)?,
+    ])
 }
 
-// A slice of any numbers.
-fn slice(s: Stage, a: Numbers) -> Stage {
-    let low = cell(a, 0);
-    let slice = SideSlice {
-        cell: low,
-        side: cents(a, 3),
-        width: arg(a, 4),
-        height: arg(a, 5),
-    };
-    let mut next = s;
-    next.slice = slice;
-    next
+fn read_volume(words: Words) -> Result<Volume, Fault> {
+    let a = Args::read(words, 11)?;
+    Ok(Volume {
+        origin: a.cell(0)?,
+        chunks: a.extent(3)?,
+        size: a.extent(6)?,
+        generation: a.get(9)?,
+        solid: a.get(10)?,
+    })
 }
 
-// A byte of the form, none past its last.
-fn with_byte(s: Stage, at: usize, x: u8) -> Stage {
-    let mut form = s.form;
-    if at < 4096 {
-        form[at] = x;
+fn read_plane(words: Words) -> Result<SideSlice, Fault> {
+    let a = Args::read(words, 6)?;
+    Ok(SideSlice {
+        cell: a.cell(0)?,
+        side: a.at_most(3, 5)?,
+        width: a.get(4)?,
+        height: a.get(5)?,
+    })
+}
+
+impl ListLine {
+    pub(crate) fn read(name: &[u8], words: Words) -> Result<Option<ListLine>, Fault> {
+        Ok(Some(match name {
+            b"lend" => ListLine::Lend(Args::read(words, 1)?.at_most(0, SECTIONS)?),
+            b"storage" => ListLine::Storage(read_storage(words)?),
+            b"mask" => {
+                let a = Args::read(words, 2)?;
+                ListLine::Mask(a.at_most(0, SLOTS)?, a.get(1)?)
+            }
+            b"list" => {
+                let a = Args::read(words, 2)?;
+                ListLine::List(a.at_most(0, NUMBERS)?, a.coordinate(1)?)
+            }
+            b"sheet" => {
+                let a = Args::read(words, 2)?;
+                ListLine::Sheet(a.at_most(0, ROWS)?, a.get(1)?)
+            }
+            b"rates" => ListLine::Rates(Args::read(words, 1)?.at_most(0, RATES)?),
+            b"form" => {
+                let a = Args::read(words, 2)?;
+                ListLine::Form(a.at_most(0, BYTES)?, a.get(1)?)
+            }
+            b"put" => {
+                let (at, bytes) = place_and_bytes(words)?;
+                ListLine::Put(at, bytes)
+            }
+            _ => return Ok(None),
+        }))
     }
-    let mut next = s;
-    next.form = form;
-    next
-}
 
-// Bytes of the form, one after another from a place on.
-fn put(s: Stage, a: Numbers) -> Stage {
-    let mut at = count(a, 0);
-    let mut next = s;
-    let mut i = 1;
-    while i < 64 {
-        if a.count <= i {
-            return next;
+    pub(crate) fn make(self, stage: &mut Stage) -> Answer {
+        match self {
+            ListLine::Lend(n) => stage.lend(n),
+            ListLine::Storage(lengths) => stage.storage.resize(lengths),
+            ListLine::Mask(n, x) => stage.mask = List::of(x, n),
+            ListLine::List(n, x) => stage.list = List::of(x, n),
+            ListLine::Sheet(n, x) => stage.sheet = List::of(x, n),
+            ListLine::Rates(n) => stage.rates.resize(n),
+            ListLine::Form(n, x) => stage.form = List::of(x, n),
+            ListLine::Put(at, bytes) => put(stage.form.all_mut(), at, bytes.entries()),
         }
-        next = with_byte(next, at, byte(a, i));
-        at = std::num::wrapping_add_usize(at, 1);
-        i += 1;
+        Answer::none()
     }
-    next
 }
 
-pub(crate) fn set_stage(s: Stage, verb: u64, a: Numbers) -> Stage {
-    match verb {
-        100..=109 => lend(s, verb, a),
-        110..=119 => price(s, verb, a),
-        120 => header(s, a),
-        122 => put(s, a),
-        _ => slice(s, a),
+// Bytes of the form, one after another from a place on; what would lie past its last is dropped.
+fn put(form: &mut [u8], at: usize, bytes: &[u8]) {
+    for (slot, b) in form.iter_mut().skip(at).zip(bytes) {
+        *slot = *b;
+    }
+}
+
+impl ValueLine {
+    pub(crate) fn read(name: &[u8], words: Words) -> Result<Option<ValueLine>, Fault> {
+        Ok(Some(match name {
+            b"cut" => ValueLine::Cut(one(words)?),
+            b"mark" => ValueLine::Mark(one(words)?),
+            b"rate" => {
+                let a = Args::read(words, 2)?;
+                ValueLine::Rate(a.at_most(0, RATES - 1)?, a.get(1)?)
+            }
+            b"header" => ValueLine::Header(read_volume(words)?),
+            b"plane" => ValueLine::Plane(read_plane(words)?),
+            _ => return Ok(None),
+        }))
+    }
+
+    pub(crate) fn make(self, stage: &mut Stage) -> Answer {
+        match self {
+            ValueLine::Cut(cut) => stage.cut = cut,
+            ValueLine::Mark(mark) => stage.mark = mark,
+            ValueLine::Rate(finish, rate) => {
+                if let Some(slot) = stage.rates.all_mut().get_mut(finish) {
+                    *slot = rate;
+                }
+            }
+            ValueLine::Header(volume) => stage.volume = volume,
+            ValueLine::Plane(slice) => stage.slice = slice,
+        }
+        Answer::none()
     }
 }

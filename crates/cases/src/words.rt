@@ -1,83 +1,51 @@
 // The words of a line: what stands between blanks, up to a word that starts with '#'.
+ghost use Rattle.std.specs.Prelude.{length};
+ghost use Rattle.std.specs.Iterator.{at_most};
 
-// Where a word stands: from its first byte to past its last. It is empty where the line has no more.
+// What of a line is still to read.
 #[derive(Clone, Copy)]
-pub(crate) struct Word {
-    pub from: usize,
-    pub to: usize,
+pub(crate) struct Words<'a> {
+    rest: &'a [u8],
 }
 
-// A byte, 0 past the line's end.
-pub(crate) fn peek(line: &[u8], at: usize) -> u8 {
-    if line.len() <= at {
-        return 0;
+fn is_blank(b: u8) -> bool {
+    b <= b' '
+}
+
+// Whether the answer stands behind a word.
+pub(crate) fn is_equals(word: &[u8]) -> bool {
+    word.starts_with(b"=")
+}
+
+impl<'a> Words<'a> {
+    pub(crate) fn of(line: &'a [u8]) -> Words<'a> {
+        Words { rest: line }
     }
-    line[at]
+
+    // The words behind the next '=', none where there is no more.
+    pub(crate) fn behind_equals(mut self) -> Option<Words<'a>> {
+        self.find(|word| is_equals(word))?;
+        Some(self)
+    }
 }
 
-// The first index from `at` on at which blanks begin, or end.
-fn run(line: &[u8], at: usize, begin: bool) -> usize {
-    let mut i = at;
-    while i < line.len() {
-        let blank = line[i] <= b' ';
-        if blank == begin {
-            return i;
+impl<'a> Iterator for Words<'a> {
+    type Item = &'a [u8];
+
+    ghost remaining = { λ s. at_most (length s.rest.now) };
+
+    fn next(&mut self) -> Option<&'a [u8]> {
+        let from = self.rest.iter().position(|b| !is_blank(*b))?;
+        let word = &self.rest[from..];
+        let (first, others) = word.split_first()?;
+        if *first == b'#' {
+            return None;
         }
-        i += 1;
-    }
-    i
-}
-
-// The next word.
-pub(crate) fn word_at(line: &[u8], at: usize) -> Word {
-    let from = run(line, at, false);
-    if peek(line, from) == b'#' {
-        return Word { from, to: from };
-    }
-    let to = run(line, from, true);
-    Word { from, to }
-}
-
-// Whether two words are the same.
-fn same(a: &[u8], v: Word, b: &[u8], w: Word) -> bool {
-    let n = std::num::wrapping_sub_usize(v.to, v.from);
-    if n != std::num::wrapping_sub_usize(w.to, w.from) {
-        return false;
-    }
-    let mut i = 0;
-    while i < n {
-        let x = peek(a, std::num::wrapping_add_usize(v.from, i));
-        if x != peek(b, std::num::wrapping_add_usize(w.from, i)) {
-            return false;
-        }
-        i += 1;
-    }
-    true
-}
-
-// Two words that follow a name in a table; empty ones where the table lacks the name.
-#[derive(Clone, Copy)]
-pub(crate) struct Entry {
-    pub first: Word,
-    pub second: Word,
-}
-
-// Looks a word of a line up in a table: a name and two words, and so on.
-pub(crate) fn find(line: &[u8], w: Word, table: &[u8]) -> Entry {
-    let mut at = 0;
-    let mut turns = 0;
-    while turns < table.len() {
-        let name = word_at(table, at);
-        let first = word_at(table, name.to);
-        let second = word_at(table, first.to);
-        if same(line, w, table, name) {
-            return Entry { first, second };
-        }
-        at = second.to;
-        turns += 1;
-    }
-    Entry {
-        first: Word { from: 0, to: 0 },
-        second: Word { from: 0, to: 0 },
+        let to = others
+            .iter()
+            .position(|b| is_blank(*b))
+            .unwrap_or(others.len());
+        self.rest = &others[to..];
+        Some(&word[..to + 1])
     }
 }

@@ -1,3 +1,1 @@
--- Laws and proofs of `exports`.
-pub mod Named
-pub mod Written
+-- No law is needed: what the exports come to is found from their definitions.

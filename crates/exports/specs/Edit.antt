@@ -1,9 +1,12 @@
 -- Opening and editing: C's struct, and the five lists after the call.
-use Rattle.std.specs.Prelude.{ℕ}
+use Rattle.std.specs.Prelude.{ℕ, Result, Ok, Err}
+use Rattle.stand.specs.Answer.{refusal_number}
 use Rattle.stand.specs.Opening.{Opening}
 use Rattle.stand.specs.Refusal.{Answer, gives, refused}
 use Rattle.stand.specs.Storage.{Outcome, State, Storage, storage}
 use Rattle.stand.specs.declared.volume.Volume.{Volume}
+use Rattle.stand.specs.declared.volume.edit.Edited as E
+use Rattle.stand.specs.declared.volume.refusal.Refusal.{Refusal}
 use Rattle.exports.specs.Reply.{no_cell, no_extent, replied}
 use Rattle.exports.specs.declared.edit.Edited.{Edited}
 use Rattle.exports.specs.declared.edit.Opened.{Opened}
@@ -30,6 +33,11 @@ open_reply o = wrote_of (replied_header o.answer) o.storage
 abbrev pub replied_edit : Answer ℕ → Volume → Edited
 replied_edit (gives n) v = record { code = 0; changed = n; volume = v }
 replied_edit (refused c) v = record { code = c; changed = 0; volume = v }
+
+-- the same of what the code answers for an edit of v
+abbrev pub replied_result : Volume → Result E.Edited Refusal → Edited
+replied_result v (Ok e) = replied_edit (gives e.count) e.volume
+replied_result v (Err r) = replied_edit (refused (refusal_number r)) v
 
 abbrev pub edit_reply : Outcome ℕ → Wrote Edited
 edit_reply o = wrote_of (replied_edit o.answer o.state.volume) (storage o.state)

@@ -1,7 +1,9 @@
 -- The price sheet's calls: C's structs, and mask and sheet after a call.
-use Rattle.std.specs.Prelude.{ℕ, List}
+use Rattle.std.specs.Prelude.{ℕ, List, Result, Ok, Err}
+use Rattle.stand.specs.Answer.{refusal_number}
 use Rattle.stand.specs.Refusal.{Answer, gives, refused}
 use Rattle.stand.specs.declared.volume.Volume.{Volume}
+use Rattle.stand.specs.declared.volume.refusal.Refusal.{Refusal}
 use Rattle.sheet.specs.Calls as S
 use Rattle.sheet.specs.Calls.{Outcome, Verdict, open_call, refresh_call}
 use Rattle.sheet.specs.Card.{terms_of}
@@ -26,6 +28,11 @@ sheet_reply_of r m l = record { reply = r; mask = m; sheet = l }
 abbrev pub replied_mark : Verdict → Marks → Marked
 replied_mark S.done k = record { code = 0; mark = k.sheet }
 replied_mark (S.refused c) k = record { code = c; mark = k.sheet }
+
+-- the same of what the code answers for a call given the mark k
+abbrev pub replied_marks : ℕ → Result Marks Refusal → Marked
+replied_marks k (Ok m) = replied_mark S.done m
+replied_marks k (Err r) = replied_mark (S.refused (refusal_number r)) (marks_of k)
 
 abbrev pub sheet_reply : Outcome → SheetReply
 sheet_reply x = sheet_reply_of (replied_mark x.verdict x.marks) x.mask x.sheet

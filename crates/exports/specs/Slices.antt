@@ -1,14 +1,14 @@
 -- A slice of a section, and a panel claimed from one: C's struct, and the mask after the call.
-use Rattle.std.specs.Prelude.{ℕ, List}
-use Rattle.std.proofs.Math.Option.{Option, none, some}
+use Rattle.std.specs.Prelude.{ℕ, List, Option, Some, None}
 use Rattle.stand.specs.Refusal.{Answer, gives, refused}
 use Rattle.stand.specs.Sides.{face_at, side_number}
 use Rattle.stand.specs.declared.Face.{Face}
 use Rattle.stand.specs.declared.volume.Volume.{Volume}
 use Rattle.mesh.specs.Lay.{slice_call}
 use Rattle.mesh.specs.Lay as L
-use Rattle.mesh.specs.Slice.{Taken, claim_call}
+use Rattle.mesh.specs.Slice.{claim_call}
 use Rattle.mesh.specs.Slice as C
+use Rattle.mesh.specs.declared.slice.Claimed.{Claimed}
 use Rattle.mesh.specs.declared.slice.Slice.{Slice}
 use Rattle.exports.specs.Reply.{no_cell, no_extent}
 use Rattle.exports.specs.Rule.{bad_argument, named, rule_at}
@@ -56,8 +56,8 @@ claim_reply_of p m = record { reply = p; mask = m }
 abbrev pub no_panel : ℕ → PanelGiven
 no_panel c = record { code = c; given = 0; cell = no_cell; side = 0; finish = 0; extent = no_extent; next = 0 }
 
-abbrev pub replied_claim : Option Taken → PanelGiven
-replied_claim (some t) =
+abbrev pub replied_claim : Option Claimed → PanelGiven
+replied_claim (Some t) =
     record {
       code = 0;
       given = 1;
@@ -67,7 +67,7 @@ replied_claim (some t) =
       extent = t.quad.extent;
       next = t.next;
     }
-replied_claim none = no_panel 0
+replied_claim None = no_panel 0
 
 abbrev pub claim_reply : C.Outcome → ClaimReply
 claim_reply x = claim_reply_of (replied_claim x.answer) x.mask

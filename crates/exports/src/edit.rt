@@ -1,15 +1,17 @@
 // Opening, setting and filling.
+// Kept: replies with a code beside the value, lists one by one and a function for each edit, since the C interface has them so.
 ghost use Rattle.std.specs.Prelude.{◌≡◌};
-ghost use Rattle.stand.specs.Answer.{number_answer, set_answer, volume_answer};
+ghost use Rattle.stand.specs.Answer.{answer_of};
 ghost use Rattle.stand.specs.Edit.{set_call};
 ghost use Rattle.stand.specs.Fill.{fill_call};
 ghost use Rattle.stand.specs.Opening.{header_call, open_call};
 ghost use Rattle.stand.specs.Storage.{state_of, storage_of};
-ghost use Rattle.exports.specs.Edit.{edit_reply, no_volume, open_reply, replied_edit, replied_header, wrote_of};
+ghost use Rattle.exports.specs.Edit.{edit_reply, open_reply, replied_header, replied_result, wrote_of};
 
-use stand::volume::answer::{NumberAnswer, SetAnswer, VolumeAnswer};
 use stand::volume::opening::header;
-use stand::volume::{Extent, Volume};
+use stand::volume::refusal::Refusal;
+use stand::volume::storage::Storage;
+use stand::volume::{Extent, Volume, edit};
 use stand::{Cell, Voxel};
 
 // A stand just opened; a header of zeros where it is refused.
@@ -29,67 +31,35 @@ pub struct Edited {
     pub volume: Volume,
 }
 
-fn no_volume() -> Volume
-    ensures { result ≡ no_volume }
-{
-    let origin = Cell { x: 0, y: 0, z: 0 };
-    let none = Extent { x: 0, y: 0, z: 0 };
-    Volume {
-        origin,
-        chunks: none,
-        size: none,
-        generation: 0,
-        solid: 0,
-    }
-}
+// A header or its refusal. Rules out a header beside a refusal, and a code of 0 for one.
+impl From<Result<Volume, Refusal>> for Opened {
+    ghost from_gives = { λ a r. r ≡ replied_header (answer_of a) };
 
-pub(crate) fn open_reply(a: VolumeAnswer) -> Opened
-    ensures { result ≡ replied_header (volume_answer a) }
-{
-    match a {
-        VolumeAnswer::Is(volume) => Opened { code: 0, volume },
-        VolumeAnswer::Refused(code) => {
-            let volume = no_volume();
-            Opened { code, volume }
+    fn from(a: Result<Volume, Refusal>) -> Opened {
+        match a {
+            Ok(volume) => Opened { code: 0, volume },
+            Err(r) => Opened {
+                code: r.number(),
+                volume: Volume::default(),
+            },
         }
     }
 }
 
-fn set_reply(a: SetAnswer, volume: Volume) -> Edited
-    ensures { result ≡ replied_edit (set_answer a) volume }
+// What an edit of a stand answers, with the old header where it is refused.
+fn edit_result(old: Volume, a: Result<edit::Edited, Refusal>) -> Edited
+    ensures { result ≡ replied_result old a }
 {
     match a {
-        SetAnswer::Changed => Edited {
+        Ok(done) => Edited {
             code: 0,
-            changed: 1,
-            volume,
+            changed: done.count,
+            volume: done.volume,
         },
-        SetAnswer::Unchanged => Edited {
-            code: 0,
+        Err(r) => Edited {
+            code: r.number(),
             changed: 0,
-            volume,
-        },
-        SetAnswer::Refused(code) => Edited {
-            code,
-            changed: 0,
-            volume,
-        },
-    }
-}
-
-fn fill_reply(a: NumberAnswer, volume: Volume) -> Edited
-    ensures { result ≡ replied_edit (number_answer a) volume }
-{
-    match a {
-        NumberAnswer::Is(changed) => Edited {
-            code: 0,
-            changed,
-            volume,
-        },
-        NumberAnswer::Refused(code) => Edited {
-            code,
-            changed: 0,
-            volume,
+            volume: old,
         },
     }
 }
@@ -98,10 +68,11 @@ fn fill_reply(a: NumberAnswer, volume: Volume) -> Edited
 pub fn stand_header(origin: Cell, size: Extent) -> Opened
     ensures { result ≡ replied_header (header_call origin size) }
 {
-    open_reply(header(origin, size))
+    Opened::from(header(origin, size))
 }
 
 // Opens a stand. Rules out a code of 0 for a refused opening, and lists that are not zeroed.
+// Kept: here, in the next two calls and in `stand_load` the struct of the five lists is built in place; made by a function, the prover loses what the lists become.
 pub fn stand_open(
     origin: Cell,
     size: Extent,
@@ -113,7 +84,14 @@ pub fn stand_open(
 ) -> Opened
     ensures { wrote_of result (storage_of cells.new hashes.new versions.new log.new last.new) ≡ open_reply (open_call (storage_of cells.old hashes.old versions.old log.old last.old) origin size) }
 {
-    open_reply(Volume::new(origin, size, cells, hashes, versions, log, last))
+    let mut storage = Storage {
+        cells,
+        hashes,
+        versions,
+        log,
+        last,
+    };
+    Opened::from(Volume::new(origin, size, &mut storage))
 }
 
 // Gives a cell a finish. Rules out the old header for a change, and "changed" for an equal finish.
@@ -129,10 +107,14 @@ pub fn stand_set(
 ) -> Edited
     ensures { wrote_of result (storage_of cells.new hashes.new versions.new log.new last.new) ≡ edit_reply (set_call (state_of volume cells.old hashes.old versions.old log.old last.old) cell finish) }
 {
-    let done = volume.set(cells, hashes, versions, log, last, cell, Voxel(finish));
-    let answer = done.answer;
-    let after = done.volume;
-    set_reply(answer, after)
+    let mut storage = Storage {
+        cells,
+        hashes,
+        versions,
+        log,
+        last,
+    };
+    edit_result(volume, volume.set(&mut storage, cell, Voxel(finish)))
 }
 
 // Gives every cell that lies both in a box and in the stand a finish. Rules out a count of the box instead of the cells changed, and another header than the last one.
@@ -149,8 +131,12 @@ pub fn stand_fill(
 ) -> Edited
     ensures { wrote_of result (storage_of cells.new hashes.new versions.new log.new last.new) ≡ edit_reply (fill_call (state_of volume cells.old hashes.old versions.old log.old last.old) from to finish) }
 {
-    let done = volume.fill(cells, hashes, versions, log, last, from, to, Voxel(finish));
-    let answer = done.answer;
-    let after = done.volume;
-    fill_reply(answer, after)
+    let mut storage = Storage {
+        cells,
+        hashes,
+        versions,
+        log,
+        last,
+    };
+    edit_result(volume, volume.fill(&mut storage, from, to, Voxel(finish)))
 }

@@ -1,4 +1,5 @@
 // The editing call over a header that is lent.
+// Kept: a twin of `stand_set` with the same lists, since C calls both, this with the header by reference and that with it by value.
 ghost use Rattle.std.specs.Prelude.{◌≡◌};
 ghost use Rattle.stand.specs.Edit.{set_call};
 ghost use Rattle.stand.specs.Storage.{state_of};

@@ -1,4 +1,5 @@
 // Numbers that stand for a rule. A number that stands for none is refused by BAD_ARGUMENT, before all else.
+// Kept: the rule and its refusal are numbers, since C passes and gets them; no TryFrom here, since u32, `Beyond` and the trait are all of other crates.
 ghost use Rattle.std.specs.Prelude.{◌≡◌};
 ghost use Rattle.exports.specs.Rule.{rule_answer, rule_at};
 
@@ -6,21 +7,13 @@ use mesh::Beyond;
 
 pub const BAD_ARGUMENT: u32 = 100;
 
-#[derive(Clone, Copy)]
-pub(crate) enum RuleAnswer {
-    Is(Beyond),
-    None,
-}
-
 // 0: outside hides a face; 1: outside shows it.
-pub(crate) fn rule_at(rule: u32) -> RuleAnswer
+pub(crate) fn rule_at(rule: u32) -> Option<Beyond>
     ensures { rule_answer result ≡ rule_at rule }
 {
-    if rule == 0 {
-        return RuleAnswer::Is(Beyond::Solid);
+    match rule {
+        0 => Some(Beyond::Solid),
+        1 => Some(Beyond::Empty),
+        _ => None,
     }
-    if rule == 1 {
-        return RuleAnswer::Is(Beyond::Empty);
-    }
-    RuleAnswer::None
 }

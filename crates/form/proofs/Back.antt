@@ -1,23 +1,23 @@
 -- A form that load takes is what store writes.
 use mathlib.Core.Path.{◌≡◌, sym, ap, ◌∙◌}
-use mathlib.Core.Bool.{Bool, true, ◌&&◌}
+use mathlib.Core.Bool.{true, ◌&&◌}
 use mathlib.Core.List.{List, ◌∷◌, ◌++◌, append_assoc, append-nil}
-use Prim.Native.Nat.{ℕ, zero, suc, ◌+◌, ◌-◌, ◌*◌, ◌/◌, ◌%◌, ◌<◌, ◌≤◌}
+use Prim.Native.Nat.{ℕ, zero, suc, ◌+◌, ◌*◌, ◌/◌, ◌%◌, ◌<◌, ◌≤◌}
 use native.Mathlib.Omega.{arith}
-use lib.Dec.{eqb, leb, ltb}
+use lib.Dec.{leb}
 use lib.ListN.{drop, length, replicate}
 use lib.Seq.{drop-cons, drop-length}
-use borrow.Author.Tests.{eqb-true, leb-true, ltb-true}
 use Rattle.arith.specs.Level.{count_of, pattern_of}
 use Rattle.stand.specs.Shape.{Shape, sections}
 use Rattle.stand.proofs.Tests.{both}
-use Rattle.arith.specs.Bytes.{Bytes, byte_at, double_at, double_bytes, short_at, short_bytes, signed_at, word_at, word_bytes}
-use Rattle.form.specs.Entries.{digest_with, entries_of, inside_at, placed}
+use Rattle.arith.specs.Bytes.{Bytes, byte_at, double_bytes, short_at, short_bytes, signed_at, word_at, word_bytes}
+use Rattle.form.specs.Entries.{digest_with, entries_of, placed}
 use Rattle.form.specs.Form.{count_in, entries_at, entries_bytes, entries_in, entry_bytes, entry_in, form_of, good_from, good_in, has_head, head_bytes, head_shape, tail_bytes, valid}
 use Rattle.arith.proofs.bytes.Laws.{count_signed, double_written, pattern_signed, short-lt, short-written, word_lt, word-written}
-use Rattle.form.proofs.Entries.{Own, entries_placed}
+use Rattle.form.proofs.Entries.{Own, each_so, entries_placed}
 use Rattle.form.specs.Inner.{Asc, Each}
 use Rattle.form.proofs.Reading.{Small}
+use Rattle.form.proofs.check.Laws.{Good, Headed, Valid, from_each, good_parts, headed, valid_parts}
 
 module _ (g : Shape) (f : List ℕ) (b : Bytes f) where
   -- the record at a place, as written
@@ -41,40 +41,17 @@ module _ (g : Shape) (f : List ℕ) (b : Bytes f) where
       ∙ ap (λ (l : List ℕ). 2 ∷ (short_bytes ((x * 4096 + y) / 4096) ++ l)) (sym (append_assoc (short_bytes ((x * 4096 + y) % 4096)) (short_bytes (short_at f (at + 5))) (drop (at + 7) f)))
       ∙ ap (λ (l : List ℕ). 2 ∷ l) (sym (append_assoc (short_bytes ((x * 4096 + y) / 4096)) (short_bytes ((x * 4096 + y) % 4096) ++ short_bytes (short_at f (at + 5))) (drop (at + 7) f)))
 
-  -- what a good record says
-  pub record GoodIn (at : ℕ) : Type 0 where
-    pub kind : byte_at f at ≡ 2
-    pub within : short_at f (at + 3) < 4096
-    pub own : Own g (entry_in f at)
-    pub small : Small (entry_in f at)
-
-  pub good_in_lem : sections g ≤ 65536 → (at : ℕ) → good_in g f at ≡ true → GoodIn at
-  unfolding good_in entry_in
-  good_in_lem few at e =
-      let p : (byte_at f at ≡ 2) × ((leb (short_at f (at + 3)) 4095 && (ltb 0 (short_at f (at + 5)) && (ltb (short_at f (at + 1)) (sections g) && inside_at g (entry_in f at).slot))) ≡ true) =
-      (let t = both (eqb (byte_at f at) 2) (leb (short_at f (at + 3)) 4095 && (ltb 0 (short_at f (at + 5)) && (ltb (short_at f (at + 1)) (sections g) && inside_at g (entry_in f at).slot))) e in (eqb-true (byte_at f at) 2 t.0, t.1)) in
-      let q = both (leb (short_at f (at + 3)) 4095) (ltb 0 (short_at f (at + 5)) && (ltb (short_at f (at + 1)) (sections g) && inside_at g (entry_in f at).slot)) p.1 in
-      let r = both (ltb 0 (short_at f (at + 5))) (ltb (short_at f (at + 1)) (sections g) && inside_at g (entry_in f at).slot) q.1 in
-      let t = both (ltb (short_at f (at + 1)) (sections g)) (inside_at g (entry_in f at).slot) r.1 in
-      let w : short_at f (at + 3) ≤ 4095 = leb-true (short_at f (at + 3)) 4095 q.0 in
-      let z : 0 < short_at f (at + 5) = ltb-true 0 (short_at f (at + 5)) r.0 in
-      let c : short_at f (at + 1) < sections g = ltb-true (short_at f (at + 1)) (sections g) t.0 in
-      record {
-        kind = p.0;
-        within = omega arith;
-        own = record { below = omega arith; inside_it = t.1; filled = λ (n : short_at f (at + 5) ≡ 0). omega arith };
-        small = record { slot = omega arith; finish = short-lt f b (at + 5) };
-      }
+  good_small : sections g ≤ 65536 → (at : ℕ) → Good g f at → Own g (entry_in f at) × Small (entry_in f at)
+  unfolding entry_in
+  good_small few at h = (
+    record { below = h.below; inside_it = h.there; filled = λ (n : short_at f (at + 5) ≡ 0). omega (arith, h.finish) },
+    record { slot = omega (arith, h.below); finish = short-lt f b (at + 5) },
+  )
 
   pub good-from : sections g ≤ 65536 → (n at next : ℕ) → good_from g f at next n ≡ true → Asc next (entries_at f at n) × Each (Own g) (entries_at f at n) × Each Small (entries_at f at n)
-  unfolding good_from entries_at
-  good-from few zero at next e = (tt, tt, tt)
-  good-from few (suc n) at next e =
-      let p = both _ _ e in
-      let q = both _ _ p.1 in
-      let h = good_in_lem few at p.0 in
-      let r = good-from few n (at + 7) (suc (entry_in f at).slot) q.1 in
-      ((leb-true _ _ q.0, r.0), (h.own, r.1), (h.small, r.2))
+  good-from few n at next e =
+      let r = from_each g f (λ e. Own g e × Small e) (good_small few) n at next e in
+      (r.0, each_so (λ e. Own g e × Small e) (Own g) (λ e w. w.0) (entries_at f at n) r.1, each_so (λ e. Own g e × Small e) Small (λ e w. w.1) (entries_at f at n) r.1)
 
   entries_written : sections g ≤ 65536 → (n at next : ℕ) → at + n * 7 ≤ length f → good_from g f at next n ≡ true → drop at f ≡ entries_bytes (entries_at f at n) ++ drop (at + n * 7) f
   unfolding good_from entries_at entries_bytes
@@ -83,53 +60,24 @@ module _ (g : Shape) (f : List ℕ) (b : Bytes f) where
       let rest = good_from g f (at + 7) (suc (entry_in f at).slot) n in
       let p = both (good_in g f at) (leb next (entry_in f at).slot && rest) e in
       let q = both (leb next (entry_in f at).slot) rest p.1 in
-      let k = good_in_lem few at p.0 in
+      let k = good_parts g f at p.0 in
       let i : at + 7 + n * 7 ≡ at + suc n * 7 = omega arith in
-      entry_written at (omega arith) k.kind k.within
+      entry_written at (omega arith) k.kind (omega (arith, k.within))
       ∙ ap (λ (l : List ℕ). entry_bytes (entry_in f at) ++ l) (entries_written few n (at + 7) (suc (entry_in f at).slot) (omega arith) q.1 ∙ ap (λ (m : ℕ). entries_bytes (entries_at f (at + 7) n) ++ drop m f) i)
       ∙ sym (append_assoc (entry_bytes (entry_in f at)) (entries_bytes (entries_at f (at + 7) n)) (drop (at + suc n * 7) f))
 
 -- the parts of the two tests
 pub record Whole (g : Shape) (f : List ℕ) : Type 0 where
-  pub kind : byte_at f 0 ≡ 1
-  pub x : 1 ≤ (head_shape f).size.x
-  pub y : 1 ≤ (head_shape f).size.y
-  pub z : 1 ≤ (head_shape f).size.z
-  pub long : 34 ≤ length f
-  pub even : (length f - 34) % 7 ≡ 0
-  pub good : good_from g f 25 0 (count_in f) ≡ true
-  pub end : byte_at f (25 + count_in f * 7) ≡ 0
-  pub digest : double_at f (26 + count_in f * 7) ≡ digest_with g (entries_in f)
-
-five : (a b c d e : Bool) → (a && (b && (c && (d && e)))) ≡ true → (a ≡ true) × (b ≡ true) × (c ≡ true) × (d ≡ true) × (e ≡ true)
-five a b c d e h =
-    let p = both a (b && (c && (d && e))) h in
-    let q = both b (c && (d && e)) p.1 in
-    let r = both c (d && e) q.1 in
-    let t = both d e r.1 in
-    (p.0, q.0, r.0, t.0, t.1)
+  pub head : Headed f
+  pub rest : Valid g f
 
 pub whole-form : (g : Shape) (f : List ℕ) → has_head f ≡ true → valid g f ≡ true → Whole g f
-unfolding valid has_head
-whole-form g f head ok =
-    let a = five (leb 25 (length f)) (eqb (byte_at f 0) 1) (leb 1 (head_shape f).size.x) (leb 1 (head_shape f).size.y) (leb 1 (head_shape f).size.z) head in
-    let p = five (leb 34 (length f)) (eqb ((length f - 34) % 7) 0) (good_from g f 25 0 (count_in f)) (eqb (byte_at f (25 + count_in f * 7)) 0) (eqb (double_at f (26 + count_in f * 7)) (digest_with g (entries_in f))) ok in
-    record {
-      kind = eqb-true (byte_at f 0) 1 a.1;
-      x = leb-true 1 (head_shape f).size.x a.2;
-      y = leb-true 1 (head_shape f).size.y a.3;
-      z = leb-true 1 (head_shape f).size.z a.4;
-      long = leb-true 34 (length f) p.0;
-      even = eqb-true ((length f - 34) % 7) 0 p.1;
-      good = p.2;
-      end = eqb-true (byte_at f (25 + count_in f * 7)) 0 p.3;
-      digest = eqb-true (double_at f (26 + count_in f * 7)) (digest_with g (entries_in f)) p.4;
-    }
+whole-form g f h e = record { head = headed f h; rest = valid_parts g f e }
 
 module _ (f : List ℕ) (b : Bytes f) (few : sections (head_shape f) ≤ 65536) (w : Whole (head_shape f) f) where
   long_enough : length f ≡ 34 + count_in f * 7
   unfolding count_in
-  long_enough = omega (arith, w.long, w.even)
+  long_enough = omega (arith, w.rest.long, w.rest.even)
 
   number-written : (at : ℕ) → at + 4 ≤ length f → drop at f ≡ word_bytes (pattern_of (signed_at f at)) ++ drop (at + 4) f
   unfolding signed_at
@@ -144,14 +92,14 @@ module _ (f : List ℕ) (b : Bytes f) (few : sections (head_shape f) ≤ 65536) 
   head_written =
       let n = long_enough in
       drop-cons f 0 0 (omega arith)
-      ∙ (λ i. w.kind i ∷ drop 1 f)
+      ∙ (λ i. w.head.kind i ∷ drop 1 f)
       ∙ ap (λ (l : List ℕ). 1 ∷ l)
       (number-written 1 (omega arith)
       ∙ ap (λ (l : List ℕ). word_bytes (pattern_of (signed_at f 1)) ++ l) (number-written 5 (omega arith)
       ∙ ap (λ (l : List ℕ). word_bytes (pattern_of (signed_at f 5)) ++ l) (number-written 9 (omega arith)
-      ∙ ap (λ (l : List ℕ). word_bytes (pattern_of (signed_at f 9)) ++ l) (size-written 13 (omega arith) w.x
-      ∙ ap (λ (l : List ℕ). word_bytes (count_of (signed_at f 13)) ++ l) (size-written 17 (omega arith) w.y
-      ∙ ap (λ (l : List ℕ). word_bytes (count_of (signed_at f 17)) ++ l) (size-written 21 (omega arith) w.z))))))
+      ∙ ap (λ (l : List ℕ). word_bytes (pattern_of (signed_at f 9)) ++ l) (size-written 13 (omega arith) w.head.x
+      ∙ ap (λ (l : List ℕ). word_bytes (count_of (signed_at f 13)) ++ l) (size-written 17 (omega arith) w.head.y
+      ∙ ap (λ (l : List ℕ). word_bytes (count_of (signed_at f 17)) ++ l) (size-written 21 (omega arith) w.head.z))))))
 
   end-written : drop (25 + count_in f * 7) f ≡ tail_bytes (digest_with (head_shape f) (entries_in f))
   unfolding tail_bytes
@@ -160,10 +108,10 @@ module _ (f : List ℕ) (b : Bytes f) (few : sections (head_shape f) ≤ 65536) 
       let i1 : suc (25 + count_in f * 7) ≡ 26 + count_in f * 7 = omega arith in
       let i2 : 26 + count_in f * 7 + 8 ≡ length f = omega arith in
       drop-cons f (25 + count_in f * 7) 0 (omega arith)
-      ∙ (λ i. w.end i ∷ drop (i1 i) f)
+      ∙ (λ i. w.rest.end i ∷ drop (i1 i) f)
       ∙ ap (λ (l : List ℕ). 0 ∷ l)
       (double_written f b (26 + count_in f * 7) (omega arith)
-      ∙ (λ i. double_bytes (w.digest i) ++ drop (i2 i) f)
+      ∙ (λ i. double_bytes (w.rest.digest i) ++ drop (i2 i) f)
       ∙ ap (λ (l : List ℕ). double_bytes (digest_with (head_shape f) (entries_in f)) ++ l) (drop-length f)
       ∙ append-nil (double_bytes (digest_with (head_shape f) (entries_in f))))
 
@@ -173,13 +121,13 @@ module _ (f : List ℕ) (b : Bytes f) (few : sections (head_shape f) ≤ 65536) 
   form-back =
       sym (head_written
       ∙ ap (λ (l : List ℕ). head_bytes (head_shape f) ++ l)
-      (entries_written (head_shape f) f b few (count_in f) 25 0 (omega (arith, long_enough)) w.good
+      (entries_written (head_shape f) f b few (count_in f) 25 0 (omega (arith, long_enough)) w.rest.good
       ∙ ap (λ (l : List ℕ). entries_bytes (entries_at f 25 (count_in f)) ++ l) end-written))
 
   -- and its entries are a stand's own
   pub form-own : Asc 0 (entries_in f) × Each (Own (head_shape f)) (entries_in f) × Each Small (entries_in f)
   unfolding entries_in
-  form-own = good-from (head_shape f) f b few (count_in f) 25 0 w.good
+  form-own = good-from (head_shape f) f b few (count_in f) 25 0 w.rest.good
 
   -- stored again, what was loaded has the same bytes
   pub load_store : form_of (head_shape f) (entries_of (head_shape f) (placed (entries_in f) (replicate (sections (head_shape f) * 4096) 0))) ≡ f

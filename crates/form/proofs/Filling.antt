@@ -8,11 +8,11 @@ use native.Mathlib.Omega.{arith}
 use borrow.Author.Tests.{ne_eqb}
 use lib.ListN.{get_or, length, replicate, set}
 use lib.Seq.{get_or-set_other}
-use Rattle.stand.specs.Edit.{advanced, changed, fitting, hash_after, set_call, solid_after, toggled}
-use Rattle.stand.specs.Shape.{Shape, cell_from, counted, opens, place_of, sections, shape_of, spot_at, well_formed}
-use Rattle.stand.specs.Storage.{Outcome, State, fresh_state, fresh_storage, shape, volume_of}
-use Rattle.stand.specs.declared.volume.shape.Place.TheVariants as P
-use Rattle.stand.proofs.Edit.{change_at, changed-fitting, changed-formed, changed-shape}
+use Rattle.stand.specs.Edit.{advanced, changed, edited, fitting, hash_after, last_generation, look, put, set_call, set_def, set_refusal, solid_after, toggled}
+use Rattle.stand.specs.Refusal.{first}
+use Rattle.stand.specs.Shape.{Shape, cell_from, counted, inside, opens, sections, shape_of, slot, spot_at, well_formed}
+use Rattle.stand.specs.Storage.{State, fresh_state, fresh_storage, shape, volume_of}
+use Rattle.stand.proofs.Edit.{changed-fitting, changed-formed, changed-shape}
 use Rattle.stand.proofs.Kept.{fresh_sound, zeros}
 use Rattle.stand.proofs.Shape.{sections-few}
 use Rattle.stand.proofs.Slots.{slot_of_cell}
@@ -36,10 +36,6 @@ record Fills (g : Shape) (s : State) (cells hashes : List ℕ) (k n : ℕ) : Typ
   hashes_are : s.hashes ≡ hashes
   free : (j : ℕ) → k ≤ j → get_or cells j 0 ≡ 0
 
-placed-there : (g : Shape) (k : ℕ) → inside_at g k ≡ true → place_of g (cell_from g (spot_at (counted g) k)) ≡ P.At k
-unfolding place_of inside_at
-placed-there g k h = rw h (ap P.At (slot_of_cell g k))
-
 one_more : (n : ℕ) (v : ℕ) → (v ≡ 0 → ⊥) → n + 1 < 2 ^ 64 → solid_after n 0 v ≡ n + 1
 unfolding solid_after
 one_more n v h l = rw (ne_eqb v 0 h) (mod-eq_of_lt l)
@@ -48,13 +44,14 @@ module _ (g : Shape) (s : State) (cells hashes : List ℕ) (k n : ℕ) (e : Entr
   empty : get_or s.cells e.slot 0 ≡ 0
   empty = ap (λ (c : List ℕ). get_or c e.slot 0) f.cells_are ∙ f.free e.slot a
 
+  there : (inside (shape s) (cell_from (shape s) (spot_at (counted (shape s)) e.slot)) ≡ true) × (slot (shape s) (cell_from (shape s) (spot_at (counted (shape s)) e.slot)) ≡ e.slot)
+  unfolding inside_at
+  there = (rw f.is o.inside_it, slot_of_cell (shape s) e.slot)
+
   set_is : (set_call s (cell_from (shape s) (spot_at (counted (shape s)) e.slot)) e.finish).state ≡ changed s e.slot e.finish
+  unfolding set_call set_refusal first edited set_def put look
   set_is =
-      sym (ap (λ (r : Outcome ℕ). r.state)
-      (change_at s (cell_from (shape s) (spot_at (counted (shape s)) e.slot)) e.finish f.formed f.fits e.slot
-      (placed-there (shape s) e.slot (ap (λ (h : Shape). inside_at h e.slot) f.is ∙ o.inside_it))
-      (λ q. o.filled (sym q ∙ empty))
-      (λ q. omega (arith, f.generation, q))))
+      rw (f.formed, f.fits, there.0, there.1, ne_eqb (get_or s.cells e.slot 0) e.finish (λ q. o.filled (sym q ∙ empty)), ne_eqb s.volume.generation last_generation (λ q. omega (arith, f.generation, q)))
 
   fills_more : Fills g (changed s e.slot e.finish) (set cells e.slot e.finish) (set hashes (e.slot / 4096) (toggled (e.slot % 4096) e.finish (get_or hashes (e.slot / 4096) 0))) (suc e.slot) (n + 1)
   unfolding changed advanced

@@ -63,8 +63,8 @@ pub loads_digest : (f : List ℕ) (l : Lengths) → Loads f l → last_digest f 
 unfolding count_in
 loads_digest f l h =
     let w = loads_whole f l h in
-    let n : length f - 8 ≡ 26 + count_in f * 7 = omega (arith, w.long, w.even) in
-    ap (double_at f) n ∙ w.digest
+    let n : length f - 8 ≡ 26 + count_in f * 7 = omega (arith, w.rest.long, w.rest.even) in
+    ap (double_at f) n ∙ w.rest.digest
 
 module _ (f : List ℕ) (l : Lengths) (b : Bytes f) (h : Loads f l) where
   pub loads_opens : opens (head_shape f) ≡ true
@@ -75,9 +75,9 @@ module _ (f : List ℕ) (l : Lengths) (b : Bytes f) (h : Loads f l) where
       let a = both (last_fits g.origin.x g.size.x) (last_fits g.origin.y g.size.y && last_fits g.origin.z g.size.z) h.last in
       let c = both (last_fits g.origin.y g.size.y) (last_fits g.origin.z g.size.z) a.1 in
       rw (
-        le-leb 1 g.size.x w.x,
-        le-leb 1 g.size.y w.y,
-        le-leb 1 g.size.z w.z,
+        le-leb 1 g.size.x w.head.x,
+        le-leb 1 g.size.y w.head.y,
+        le-leb 1 g.size.z w.head.z,
         a.0,
         c.0,
         c.1,
@@ -93,7 +93,7 @@ module _ (f : List ℕ) (l : Lengths) (b : Bytes f) (h : Loads f l) where
 
   pub loads_own : Asc 0 (entries_in f) × Each (Own (head_shape f)) (entries_in f) × Each Small (entries_in f)
   unfolding entries_in
-  loads_own = good-from (head_shape f) f b h.few (count_in f) 25 0 (loads_whole f l h).good
+  loads_own = good-from (head_shape f) f b h.few (count_in f) 25 0 (loads_whole f l h).rest.good
 
 pub at_length : (f : List ℕ) (n at : ℕ) → length (entries_at f at n) ≡ n
 unfolding entries_at

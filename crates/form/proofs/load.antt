@@ -1,3 +1,2 @@
 -- Laws of loading.
-pub mod Header
 pub mod Laws

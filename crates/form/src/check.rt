@@ -1,57 +1,33 @@
 // A form checked without storage.
-ghost use Rattle.std.specs.Prelude.{◌≡◌, true, ◌≤◌, ◌+◌, ◌*◌, length};
-ghost use Rattle.stand.specs.Shape.{shape_of, well_formed};
-ghost use Rattle.form.specs.Form.{good_from, head_length, valid};
-ghost use Rattle.form.specs.Inner.{record_at};
+ghost use Rattle.std.specs.Prelude.{◌≡◌, IfOk, cond};
+ghost use Rattle.stand.specs.Answer.{code_of};
+ghost use Rattle.stand.specs.Shape.{shape_of};
+ghost use Rattle.form.specs.Form.{count_in, valid};
 
-use crate::digest::form_digest;
-use crate::layout::{CELL_LENGTH, EMPTY_LENGTH, END_KIND, HEAD_LENGTH};
-use crate::record::{good_at, slot_in};
+use crate::layout::{CELL_LENGTH, HEAD_LENGTH, Kind};
+use crate::records::{Records, count_in};
 use arith::bytes::{byte, double};
-use stand::volume::Volume;
+use stand::volume::formed::Formed;
+use stand::volume::refusal::Refusal;
 
-// Whether n records are good and ascending.
-fn entries_good(v: Volume, form: &[u8], n: usize) -> bool
-    requires { (well_formed v ≡ true) × (record_at n ≤ length form.now) }
-    ensures { result ≡ good_from (shape_of v) form.now head_length 0 n }
+// The records of a form that after its kind 1 has whole ones, each good, ascending, and the digest, with no byte after it; refuses by 14.
+#[tactic(auto, unfolding(crate::specs::Form::count_in, crate::specs::Form::entries_in, crate::specs::Form::valid, crate::specs::Inner::counted_in), using(crate::proofs::check::Laws::ordered))]
+pub(crate) fn check<'a>(header: Formed, form: &'a [u8]) -> Result<Records<'a>, Refusal>
+    ensures code { code_of result ≡ cond (valid (shape_of header.volume) form.now) 0 14 }
+    ensures same { IfOk result (λ r. (r.form ≡ form.entry) × (r.count ≡ count_in form.now)) }
 {
-    let mut k = 0;
-    let mut next = 0;
-    while k < n {
-        let at = HEAD_LENGTH + k * CELL_LENGTH;
-        if !good_at(v, form, at) {
-            return false;
-        }
-        let slot = slot_in(form, at);
-        if slot < next {
-            return false;
-        }
-        next = slot + 1;
-        k += 1;
+    let count = count_in(form.len()).ok_or(Refusal::BadForm)?;
+    let records = Records { form, count };
+    if !records.are_good(header) {
+        return Err(Refusal::BadForm);
     }
-    true
-}
-
-// Whether after its kind 1 a form has whole records, each good, ascending, and the digest, with no byte after it.
-pub(crate) fn is_valid(v: Volume, form: &[u8]) -> bool
-    requires { well_formed v ≡ true }
-    ensures { result ≡ valid (shape_of v) form.now }
-{
-    let len = form.len();
-    if len < EMPTY_LENGTH {
-        return false;
+    let end = HEAD_LENGTH + count * CELL_LENGTH;
+    if byte(form, end) != Kind::End as u8 {
+        return Err(Refusal::BadForm);
     }
-    if (len - EMPTY_LENGTH) % CELL_LENGTH != 0 {
-        return false;
+    let same = double(form, end + 1) == records.digest(header);
+    if !same {
+        return Err(Refusal::BadForm);
     }
-    let n = (len - EMPTY_LENGTH) / CELL_LENGTH;
-    if !entries_good(v, form, n) {
-        return false;
-    }
-    let end = HEAD_LENGTH + n * CELL_LENGTH;
-    if byte(form, end) != END_KIND {
-        return false;
-    }
-    let stored = double(form, end + 1);
-    stored == form_digest(v, form, n)
+    Ok(records)
 }

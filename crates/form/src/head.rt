@@ -1,59 +1,44 @@
 // The head of a form, kind 1: origin and size.
-ghost use Rattle.std.specs.Prelude.{◌≡◌};
-ghost use Rattle.arith.specs.Bytes.{signed_at};
-ghost use Rattle.arith.specs.Level.{count_of};
-ghost use Rattle.form.specs.Form.{has_head};
-ghost use Rattle.form.specs.Inner.{head_cell, head_extent};
+ghost use Rattle.std.specs.Prelude.{◌≡◌, ◌≤◌};
+ghost use Rattle.form.specs.Inner.{cell_in, head_in};
 
-use crate::layout::{HEAD_KIND, HEAD_LENGTH};
+use crate::layout::{HEAD_LENGTH, Kind};
 use arith::bytes::{byte, signed};
-use arith::level::count;
 use stand::Cell;
 use stand::volume::Extent;
+use stand::volume::shape::counts;
 
-// A size, 0 for a negative one.
-fn size_at(form: &[u8], at: usize) -> u64
-    ensures { result ≡ count_of (signed_at form.now at) }
-{
-    let s = signed(form, at);
-    count(s)
+// Where a form's stand begins, and how many cells it has along each axis.
+#[derive(Clone, Copy)]
+pub struct Head {
+    pub origin: Cell,
+    pub size: Extent,
 }
 
-// Whether a whole kind 1 comes first, with sizes of 1 or more.
-pub(crate) fn has_head(form: &[u8]) -> bool
-    ensures { result ≡ has_head form.now }
+// Three i32 from a place in the head on.
+fn cell_in(form: &[u8], at: usize) -> Cell
+    requires { at ≤ 13 }
+    ensures { result ≡ cell_in form.now at }
 {
-    if form.len() < HEAD_LENGTH {
-        return false;
-    }
-    if byte(form, 0) != HEAD_KIND {
-        return false;
-    }
-    if size_at(form, 13) < 1 {
-        return false;
-    }
-    if size_at(form, 17) < 1 {
-        return false;
-    }
-    1 <= size_at(form, 21)
+    let x = signed(form, at);
+    let y = signed(form, at + 4);
+    let z = signed(form, at + 8);
+    Cell::new(x, y, z)
 }
 
-// The origin that a form's head has.
-pub(crate) fn head_cell(form: &[u8]) -> Cell
-    ensures { result ≡ head_cell form.now }
+// The head, where a whole kind 1 comes first, with sizes of 1 or more.
+#[tactic(auto, unfolding(crate::specs::Form::has_head, crate::specs::Form::head_shape, crate::specs::Inner::head_in))]
+pub(crate) fn read_head(form: &[u8]) -> Option<Head>
+    ensures { result ≡ head_in form.now }
 {
-    let x = signed(form, 1);
-    let y = signed(form, 5);
-    let z = signed(form, 9);
-    Cell { x, y, z }
-}
-
-// The size that a form's head has.
-pub(crate) fn head_extent(form: &[u8]) -> Extent
-    ensures { result ≡ head_extent form.now }
-{
-    let x = signed(form, 13);
-    let y = signed(form, 17);
-    let z = signed(form, 21);
-    Extent { x, y, z }
+    if form.len() < HEAD_LENGTH || byte(form, 0) != Kind::Head as u8 {
+        return None;
+    }
+    let origin = cell_in(form, 1);
+    let size = Extent::from(cell_in(form, 13));
+    let n = counts(size);
+    if n.x < 1 || n.y < 1 || n.z < 1 {
+        return None;
+    }
+    Some(Head { origin, size })
 }

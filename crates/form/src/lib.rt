@@ -9,4 +9,5 @@ mod layout;
 pub mod load;
 mod put;
 mod record;
+mod records;
 pub mod store;

@@ -1,103 +1,76 @@
 // A form's bytes written: little-endian numbers, and a record of each kind.
-ghost use Rattle.std.specs.Prelude.{◌≡◌, ◌∷◌, [], ◌<◌, ◌≤◌, ◌+◌, length};
+ghost use Rattle.std.specs.Prelude.{◌≡◌, ◌<◌, ◌≤◌, ◌+◌, length};
 ghost use Rattle.std.proofs.lemmas.List.Edits.{sets};
-ghost use Rattle.arith.specs.Bytes.{double_bytes, short_bytes, word_bytes};
 ghost use Rattle.stand.specs.Shape.{shape_of};
 ghost use Rattle.form.specs.Entries.{entry_of};
 ghost use Rattle.form.specs.Form.{cell_length, end_length, entry_bytes, head_bytes, head_length, tail_bytes};
-ghost use Rattle.form.specs.Inner.{patterns_of, three_bytes};
+ghost use Rattle.form.specs.Inner.{slot_of, three_bytes};
 
-use crate::layout::{CELL_KIND, END_KIND, HEAD_KIND};
-use arith::level::pattern;
-use stand::Cell;
-use stand::volume::Volume;
-use stand::volume::shape::{Point, counts};
+use crate::layout::Kind;
+use crate::record::Record;
+use stand::volume::formed::Formed;
 
-// A byte at a place.
-fn put_byte(bytes: &mut [u8], at: usize, n: u8)
-    requires { at < length bytes.old }
-    ensures { bytes.new ≡ sets bytes.old at (n ∷ []) }
+// Bytes from a place on.
+fn put(out: &mut [u8], at: usize, bytes: &[u8])
+    requires { at + length bytes.now ≤ length out.old }
+    ensures { out.new ≡ sets out.old at bytes.now }
 {
-    bytes[at] = n;
-}
-
-// A u16 from a place on; of a larger number its low 16 bits.
-fn put_short(bytes: &mut [u8], at: usize, n: u64)
-    requires { at + 2 ≤ length bytes.old }
-    ensures { bytes.new ≡ sets bytes.old at (short_bytes n) }
-{
-    put_byte(bytes, at, (n % 256) as u8);
-    put_byte(bytes, at + 1, (n / 256 % 256) as u8);
-}
-
-// A u32 from a place on; of a larger number its low 32 bits.
-fn put_word(bytes: &mut [u8], at: usize, n: u64)
-    requires { at + 4 ≤ length bytes.old }
-    ensures { bytes.new ≡ sets bytes.old at (word_bytes n) }
-{
-    put_short(bytes, at, n % 65536);
-    put_short(bytes, at + 2, n / 65536);
-}
-
-// A u64 from a place on.
-fn put_double(bytes: &mut [u8], at: usize, n: u64)
-    requires { at + 8 ≤ length bytes.old }
-    ensures { bytes.new ≡ sets bytes.old at (double_bytes n) }
-{
-    put_word(bytes, at, n % 4294967296);
-    put_word(bytes, at + 4, n / 4294967296);
+    out[at..at + bytes.len()].copy_from_slice(bytes);
 }
 
 // Three u32 from a place on.
-fn put_three(out: &mut [u8], at: usize, p: Point)
+#[tactic(auto, unfolding(crate::specs::Inner::three_bytes), using(crate::proofs::put::Laws::sets_append, crate::proofs::put::Laws::word_le))]
+fn put_three(out: &mut [u8], at: usize, x: u32, y: u32, z: u32)
     requires { at + 12 ≤ length out.old }
-    ensures { out.new ≡ sets out.old at (three_bytes p) }
+    ensures { out.new ≡ sets out.old at (three_bytes x y z) }
 {
-    put_word(out, at, p.x);
-    put_word(out, at + 4, p.y);
-    put_word(out, at + 8, p.z);
-}
-
-// A cell's coordinates as unsigned numbers of the same 32 bits.
-fn patterns(c: Cell) -> Point
-    ensures { result ≡ patterns_of c }
-{
-    let x = pattern(c.x);
-    let y = pattern(c.y);
-    let z = pattern(c.z);
-    Point { x, y, z }
+    put(out, at, &x.to_le_bytes());
+    put(out, at + 4, &y.to_le_bytes());
+    put(out, at + 8, &z.to_le_bytes());
 }
 
 // The head: origin and size.
-pub(crate) fn put_head(v: Volume, out: &mut [u8])
+pub(crate) fn put_head(header: Formed, out: &mut [u8])
     requires { head_length ≤ length out.old }
-    ensures { out.new ≡ sets out.old 0 (head_bytes (shape_of v)) }
+    ensures { out.new ≡ sets out.old 0 (head_bytes (shape_of header.volume)) }
 {
-    let origin = v.origin;
-    let size = v.size;
-    let o = patterns(origin);
-    let n = counts(size);
-    put_byte(out, 0, HEAD_KIND);
-    put_three(out, 1, o);
-    put_three(out, 13, n);
+    let o = header.volume.origin;
+    let n = header.volume.size;
+    put(out, 0, &[Kind::Head as u8]);
+    put_three(
+        out,
+        1,
+        o.x.cast_unsigned(),
+        o.y.cast_unsigned(),
+        o.z.cast_unsigned(),
+    );
+    put_three(
+        out,
+        13,
+        n.x.cast_unsigned(),
+        n.y.cast_unsigned(),
+        n.z.cast_unsigned(),
+    );
 }
 
 // The record of a cell.
-pub(crate) fn put_entry(out: &mut [u8], at: usize, slot: u64, finish: u64)
-    requires { at + cell_length ≤ length out.old }
-    ensures { out.new ≡ sets out.old at (entry_bytes (entry_of slot finish)) }
+#[tactic(auto, unfolding(crate::specs::Form::entry_bytes, arith::specs::Bytes::short_bytes), using(crate::proofs::put::Laws::sets_append))]
+pub(crate) fn put_record(out: &mut [u8], at: usize, r: Record)
+    requires { (r.within < 4096) × (at + cell_length ≤ length out.old) }
+    ensures { out.new ≡ sets out.old at (entry_bytes (entry_of (slot_of r) r.finish)) }
 {
-    put_byte(out, at, CELL_KIND);
-    put_short(out, at + 1, slot / 4096);
-    put_short(out, at + 3, slot % 4096);
-    put_short(out, at + 5, finish);
+    put(out, at, &[Kind::Cell as u8]);
+    put(out, at + 1, &r.section.to_le_bytes());
+    put(out, at + 3, &r.within.to_le_bytes());
+    put(out, at + 5, &r.finish.to_le_bytes());
 }
 
 // The end: the digest.
+#[tactic(auto, unfolding(crate::specs::Form::tail_bytes), using(crate::proofs::put::Laws::sets_append, crate::proofs::put::Laws::double_le))]
 pub(crate) fn put_tail(out: &mut [u8], at: usize, digest: u64)
     requires { at + end_length ≤ length out.old }
     ensures { out.new ≡ sets out.old at (tail_bytes digest) }
 {
-    put_byte(out, at, END_KIND);
-    put_double(out, at + 1, digest);
+    put(out, at, &[Kind::End as u8]);
+    put(out, at + 1, &digest.to_le_bytes());
 }

@@ -1,24 +1,19 @@
 -- The bytes of a call: document 01, 'Trial program'.
-use Rattle.std.specs.Prelude.{ℕ, ◌+◌, Bool, cond, ◌&&◌, List, eqb, ltb, leb, length}
+use Rattle.std.specs.Prelude.{ℕ, ◌+◌, Bool, cond, ◌&&◌, List, eqb, ltb, leb, length, Option, Some, None}
 use Rattle.arith.specs.Bytes.{byte_at, short_at, signed_at, word_at}
+use Rattle.stand.specs.Extents.{extent_from}
 use Rattle.stand.specs.declared.Cell.{Cell}
 use Rattle.stand.specs.declared.volume.Extent.{Extent}
 use Rattle.interpreter.specs.declared.Call.{Call}
 use Rattle.interpreter.specs.declared.Call.TheVariants.{Open, Set, Fill, Refresh, Rate, Cut}
-use Rattle.interpreter.specs.declared.decode.Decoded.{Decoded}
-use Rattle.interpreter.specs.declared.decode.Decoded.TheVariants.{Is, Broken}
 
 -- ---- three little-endian numbers, from a place on
 
 unfoldable pub cell_at : List ℕ → ℕ → Cell
 cell_at b at = record { x = signed_at b at; y = signed_at b (at + 4); z = signed_at b (at + 8) }
 
--- three numbers as a size
-abbrev pub size_of : Cell → Extent
-size_of c = record { x = c.x; y = c.y; z = c.z }
-
 unfoldable pub extent_at : List ℕ → ℕ → Extent
-extent_at b at = size_of (cell_at b at)
+extent_at b at = extent_from (cell_at b at)
 
 -- ---- calls
 
@@ -41,5 +36,5 @@ call_of kind b =
 unfoldable pub whole : List ℕ → Bool
 whole b = ltb 0 (length_of (byte_at b 0)) && leb (length_of (byte_at b 0)) (length b)
 
-unfoldable pub decode_of : List ℕ → Decoded
-decode_of b = cond (whole b) (Is (call_of (byte_at b 0) b)) Broken
+unfoldable pub decode_of : List ℕ → Option Call
+decode_of b = cond (whole b) (Some (call_of (byte_at b 0) b)) None

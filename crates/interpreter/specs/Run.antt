@@ -20,7 +20,11 @@ use Rattle.interpreter.specs.declared.Call.TheVariants as K
 use Rattle.interpreter.specs.declared.Machine.{Machine}
 use Rattle.interpreter.specs.declared.Reply.{Reply}
 use Rattle.interpreter.specs.declared.Reply.TheVariants as R
-use Rattle.interpreter.specs.declared.Turn.{Turn}
+
+-- what is held after a call, and the reply to it
+pub record Turn : Type 0 where
+  pub machine : Machine
+  pub reply : Reply
 
 abbrev pub turn_of : Machine → Reply → Turn
 turn_of m r = record { machine = m; reply = r }

@@ -1,22 +1,21 @@
 -- A whole script, from its bytes to the lines that it prints: document 01, 'Trial program'.
-use Rattle.std.specs.Prelude.{ℕ, zero, suc, Bool, true, false, cond, List, [], ◌∷◌, ◌++◌, drop, length, replicate}
+use Rattle.std.specs.Prelude.{ℕ, zero, suc, Bool, true, false, cond, List, [], ◌∷◌, ◌++◌, drop, length, replicate, Option, Some, None}
 use Rattle.interpreter.specs.Decode.{decode_of, length_of}
 use Rattle.interpreter.specs.Line.{line_of}
 use Rattle.interpreter.specs.Room.{Lists, lists_of}
 use Rattle.interpreter.specs.Run.{After, after_of, run_step, turn_of}
 use Rattle.interpreter.specs.Start.{start_machine, unset}
+use Rattle.interpreter.specs.declared.Call.{Call}
 use Rattle.interpreter.specs.declared.Machine.{Machine}
 use Rattle.interpreter.specs.declared.Reply.{Reply}
 use Rattle.interpreter.specs.declared.Reply.TheVariants as R
-use Rattle.interpreter.specs.declared.decode.Decoded.{Decoded}
-use Rattle.interpreter.specs.declared.decode.Decoded.TheVariants as D
 
 -- ---- one step
 
 -- a call that is whole is made; else nothing changes
-unfoldable pub decoded_step : Machine → Lists → Decoded → After
-decoded_step m l (D.Is call) = run_step m l call
-decoded_step m l D.Broken = after_of (turn_of m R.Broken) l
+unfoldable pub decoded_step : Machine → Lists → Option Call → After
+decoded_step m l (Some call) = run_step m l call
+decoded_step m l None = after_of (turn_of m R.Broken) l
 
 unfoldable pub step_of : Machine → Lists → List ℕ → After
 step_of m l b = decoded_step m l (decode_of b)

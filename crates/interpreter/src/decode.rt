@@ -1,20 +1,15 @@
 // The bytes of a call (document 01, 'Trial program'): a kind byte, then a little-endian body.
-ghost use Rattle.std.specs.Prelude.{◌≡◌, ◌+◌, ◌≤◌, ◌<◌, length};
-ghost use Rattle.interpreter.specs.Decode.{cell_at, extent_at, length_of, call_of, decode_of};
+ghost use Rattle.std.specs.Prelude.{◌≡◌, ◌≤◌};
+ghost use Rattle.interpreter.specs.Decode.{call_of, cell_at, decode_of, length_of};
 
 use crate::Call;
-use arith::bytes::{short, signed, word};
+use arith::bytes::{byte, short, signed, word};
 use stand::Cell;
 use stand::volume::Extent;
 
-#[derive(Clone, Copy)]
-pub enum Decoded {
-    Is(Call),
-    // An unknown kind, or a short body.
-    Broken,
-}
-
 // The bytes of a call of this kind, the kind byte among them; 0 for an unknown kind. Rules out the body alone, and a length for kind 0.
+// Kept: the kind byte is matched as it is, once for the length, which a reader wants first, and once for the body; an enum of kinds would be a third match. The 0 is what this public call promises.
+#[tactic(auto, unfolding(crate::specs::Decode::length_of))]
 pub fn call_length(kind: u8) -> usize
     ensures { (result ≡ length_of kind) × (result ≤ 27) }
 {
@@ -29,31 +24,23 @@ pub fn call_length(kind: u8) -> usize
     }
 }
 
-// The call that the bytes start with; those after it are not looked at. Rules out a call of a short body, and big-endian numbers.
-pub fn decode(bytes: &[u8]) -> Decoded
+// The call that the bytes start with, none where the kind is unknown or the body short; bytes after it are not looked at. Rules out a call of a short body, and big-endian numbers.
+#[tactic(auto, unfolding(crate::specs::Decode::decode_of, crate::specs::Decode::whole))]
+pub fn decode(bytes: &[u8]) -> Option<Call>
     ensures { result ≡ decode_of bytes.now }
 {
-    if bytes.len() == 0 {
-        return Decoded::Broken;
-    }
-    let kind = bytes[0];
+    let kind = byte(bytes, 0);
     let n = call_length(kind);
-    if n == 0 {
-        return Decoded::Broken;
-    }
-    if bytes.len() < n {
-        return Decoded::Broken;
-    }
-    let call = body(kind, bytes);
-    Decoded::Is(call)
+    (0 < n && n <= bytes.len()).then(|| body(kind, bytes))
 }
 
+// The call of a known kind, the last for all others.
+#[tactic(auto, unfolding(crate::specs::Decode::call_of, crate::specs::Decode::extent_at))]
 fn body(kind: u8, bytes: &[u8]) -> Call
-    requires { (0 < length_of kind) × (length_of kind ≤ length bytes.now) }
     ensures { result ≡ call_of kind bytes.now }
 {
     match kind {
-        1 => Call::Open(cell(bytes, 1), extent(bytes, 13)),
+        1 => Call::Open(cell(bytes, 1), Extent::from(cell(bytes, 13))),
         2 => Call::Set(cell(bytes, 1), short(bytes, 13)),
         3 => Call::Fill(cell(bytes, 1), cell(bytes, 13), short(bytes, 25)),
         4 => Call::Refresh,
@@ -62,24 +49,15 @@ fn body(kind: u8, bytes: &[u8]) -> Call
     }
 }
 
+// Kept: `form` reads its head by the same three lines; one function in a crate below both would add a public contract with edits of its own, and is no plainer.
+#[tactic(auto, unfolding(crate::specs::Decode::cell_at))]
 fn cell(bytes: &[u8], at: usize) -> Cell
-    requires { at + 12 ≤ length bytes.now }
+    requires { at ≤ 13 }
     ensures { result ≡ cell_at bytes.now at }
 {
-    let x = signed(bytes, at);
-    let y = signed(bytes, at + 4);
-    let z = signed(bytes, at + 8);
-    Cell { x, y, z }
-}
-
-fn extent(bytes: &[u8], at: usize) -> Extent
-    requires { at + 12 ≤ length bytes.now }
-    ensures { result ≡ extent_at bytes.now at }
-{
-    let c = cell(bytes, at);
-    Extent {
-        x: c.x,
-        y: c.y,
-        z: c.z,
+    Cell {
+        x: signed(bytes, at),
+        y: signed(bytes, at + 4),
+        z: signed(bytes, at + 8),
     }
 }

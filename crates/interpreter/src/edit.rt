@@ -1,186 +1,98 @@
 // Opening, setting and filling, on the part of the storage that the stand has.
-ghost use Rattle.std.specs.Prelude.{◌≡◌};
-ghost use Rattle.stand.specs.Answer.{number_answer, set_answer, volume_answer};
+ghost use Rattle.std.specs.Prelude.{◌≡◌, length};
+ghost use Rattle.stand.specs.Answer.{answer_of};
 ghost use Rattle.stand.specs.Storage.{storage_of};
-ghost use Rattle.interpreter.specs.Run.{edited_of, fill_step, machine_of, open_step, opened_turn, reply_of, set_step, turn_of};
+ghost use Rattle.interpreter.specs.Edits.{chunks_for, edit_call, edit_step, edited_turn, made};
+ghost use Rattle.interpreter.specs.Held.{Kept, SameRest, storage_held};
+ghost use Rattle.interpreter.specs.Run.{edited_of, turn_of};
 
-use crate::room::{held, lent, wanted};
-use crate::{Machine, Reply, Turn};
-use stand::volume::answer::{NumberAnswer, SetAnswer, VolumeAnswer};
+use crate::lists::{Lists, chunks_in, chunks_of};
+use crate::{Machine, Reply};
+use stand::volume::opening::header;
+use stand::volume::refusal::Refusal;
+use stand::volume::storage::Storage;
 use stand::volume::{Extent, Volume};
 use stand::{Cell, Voxel};
 
-// After an opening; a refused one keeps the stand.
-fn opened(m: Machine, a: VolumeAnswer) -> Turn
-    ensures { result ≡ opened_turn m (volume_answer a) }
-{
-    match a {
-        VolumeAnswer::Is(volume) => {
-            let marks = m.marks;
-            let machine = Machine {
-                volume,
-                marks,
-                stale: true,
-                cut: m.cut,
-            };
-            Turn {
-                machine,
-                reply: Reply::Quiet,
-            }
+// A call of kind 1, 2 or 3.
+#[derive(Clone, Copy)]
+pub(crate) enum Edit {
+    Open(Cell, Extent),
+    Set(Cell, u16),
+    Fill(Cell, Cell, u16),
+}
+
+impl Edit {
+    // The chunks that the edit asks for: an opening, those of the new stand.
+    #[tactic(auto, unfolding(crate::specs::Room::wanted_of))]
+    fn chunks(self, v: Volume) -> u64
+        ensures { result ≡ chunks_for self v }
+    {
+        match self {
+            Edit::Open(origin, size) => chunks_in(header(origin, size)),
+            _ => chunks_of(v),
         }
-        VolumeAnswer::Refused(n) => Turn {
-            machine: m,
-            reply: Reply::Refused(n),
-        },
+    }
+
+    // The header after the edit of a stand, made on its lists.
+    // Kept: the lists are parameters; of a part of a list that a struct holds, tried, the prover does not know what it is left as.
+    fn make(
+        self,
+        v: Volume,
+        cells: &mut [u16],
+        hashes: &mut [u64],
+        versions: &mut [u32],
+        log: &mut [u32],
+        last: &mut [u64],
+    ) -> Result<Volume, Refusal>
+        ensures { made v (answer_of result) (storage_of cells.new hashes.new versions.new log.new last.new) ≡ edit_call self v (storage_of cells.old hashes.old versions.old log.old last.old) }
+    {
+        let mut s = Storage {
+            cells,
+            hashes,
+            versions,
+            log,
+            last,
+        };
+        match self {
+            Edit::Open(origin, size) => Volume::new(origin, size, &mut s),
+            Edit::Set(cell, finish) => Ok(v.set(&mut s, cell, Voxel(finish))?.volume),
+            Edit::Fill(from, to, finish) => Ok(v.fill(&mut s, from, to, Voxel(finish))?.volume),
+        }
     }
 }
 
-fn set_reply(a: SetAnswer) -> Reply
-    ensures { result ≡ reply_of (set_answer a) }
+// After an edit: the new header, and a refresh after an opening measures all; a refused edit keeps the stand.
+fn edited(m: &mut Machine, edit: Edit, made: Result<Volume, Refusal>) -> Reply
+    ensures { turn_of m.new result ≡ edited_turn edit m.old (answer_of made) }
 {
-    match a {
-        SetAnswer::Changed => Reply::Quiet,
-        SetAnswer::Unchanged => Reply::Quiet,
-        SetAnswer::Refused(n) => Reply::Refused(n),
+    match made {
+        Ok(volume) => {
+            m.volume = volume;
+            m.stale = matches!(edit, Edit::Open(..)) || m.stale;
+            Reply::Quiet
+        }
+        Err(r) => Reply::Refused(r.number()),
     }
 }
 
-fn fill_reply(a: NumberAnswer) -> Reply
-    ensures { result ≡ reply_of (number_answer a) }
+// Kinds 1 to 3.
+// Kept: `Kept`, here and in `quote`, `run` and `step`, speaks of the lists before and after, which no invariant of one value can say; the header is named once, since it is used twice.
+#[tactic(auto, using(crate::proofs::Edits::edited_so))]
+pub(crate) fn make_edit(m: &mut Machine, lists: &mut Lists, edit: Edit) -> Reply
+    ensures outcome { edited_of (turn_of m.new result) (storage_held lists.new) ≡ edit_step edit m.old (storage_held lists.old) (length lists.old.sheet.now) }
+    ensures rest { SameRest lists.old lists.new }
+    ensures kept { Kept lists.old lists.new }
 {
-    match a {
-        NumberAnswer::Is(_) => Reply::Quiet,
-        NumberAnswer::Refused(n) => Reply::Refused(n),
-    }
-}
-
-// After an edit.
-fn moved(m: Machine, volume: Volume, reply: Reply) -> Turn
-    ensures { result ≡ turn_of (machine_of volume m.marks m.stale m.cut) reply }
-{
-    let marks = m.marks;
-    let machine = Machine {
+    let volume = m.volume;
+    let n = lists.lent(edit.chunks(volume));
+    let made = edit.make(
         volume,
-        marks,
-        stale: m.stale,
-        cut: m.cut,
-    };
-    Turn { machine, reply }
-}
-
-// Kind 1.
-pub(crate) fn open(
-    m: Machine,
-    cells: &mut [u16],
-    hashes: &mut [u64],
-    versions: &mut [u32],
-    log: &mut [u32],
-    last: &mut [u64],
-    sheet: usize,
-    origin: Cell,
-    size: Extent,
-) -> Turn
-    ensures { edited_of result (storage_of cells.new hashes.new versions.new log.new last.new) ≡ open_step m (storage_of cells.old hashes.old versions.old log.old last.old) sheet origin size }
-{
-    let k = wanted(origin, size);
-    let n = lent(
-        k,
-        cells.len(),
-        hashes.len(),
-        versions.len(),
-        log.len(),
-        last.len(),
-        sheet,
+        &mut lists.cells[..n * 4096],
+        &mut lists.hashes[..n],
+        &mut lists.versions[..n],
+        &mut lists.log[..n],
+        &mut lists.last[..n],
     );
-    let most = n * 4096;
-    let a = Volume::new(
-        origin,
-        size,
-        &mut cells[..most],
-        &mut hashes[..n],
-        &mut versions[..n],
-        &mut log[..n],
-        &mut last[..n],
-    );
-    opened(m, a)
-}
-
-// Kind 2.
-pub(crate) fn set(
-    m: Machine,
-    cells: &mut [u16],
-    hashes: &mut [u64],
-    versions: &mut [u32],
-    log: &mut [u32],
-    last: &mut [u64],
-    sheet: usize,
-    cell: Cell,
-    finish: u16,
-) -> Turn
-    ensures { edited_of result (storage_of cells.new hashes.new versions.new log.new last.new) ≡ set_step m (storage_of cells.old hashes.old versions.old log.old last.old) sheet cell finish }
-{
-    let v = m.volume;
-    let n = held(
-        v,
-        cells.len(),
-        hashes.len(),
-        versions.len(),
-        log.len(),
-        last.len(),
-        sheet,
-    );
-    let most = n * 4096;
-    let done = v.set(
-        &mut cells[..most],
-        &mut hashes[..n],
-        &mut versions[..n],
-        &mut log[..n],
-        &mut last[..n],
-        cell,
-        Voxel(finish),
-    );
-    let answer = done.answer;
-    let reply = set_reply(answer);
-    moved(m, done.volume, reply)
-}
-
-// Kind 3.
-pub(crate) fn fill(
-    m: Machine,
-    cells: &mut [u16],
-    hashes: &mut [u64],
-    versions: &mut [u32],
-    log: &mut [u32],
-    last: &mut [u64],
-    sheet: usize,
-    from: Cell,
-    to: Cell,
-    finish: u16,
-) -> Turn
-    ensures { edited_of result (storage_of cells.new hashes.new versions.new log.new last.new) ≡ fill_step m (storage_of cells.old hashes.old versions.old log.old last.old) sheet from to finish }
-{
-    let v = m.volume;
-    let n = held(
-        v,
-        cells.len(),
-        hashes.len(),
-        versions.len(),
-        log.len(),
-        last.len(),
-        sheet,
-    );
-    let most = n * 4096;
-    let done = v.fill(
-        &mut cells[..most],
-        &mut hashes[..n],
-        &mut versions[..n],
-        &mut log[..n],
-        &mut last[..n],
-        from,
-        to,
-        Voxel(finish),
-    );
-    let answer = done.answer;
-    let reply = fill_reply(answer);
-    moved(m, done.volume, reply)
+    edited(m, edit, made)
 }

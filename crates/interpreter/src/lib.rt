@@ -8,8 +8,9 @@ use stand::volume::{Extent, Volume};
 pub mod decode;
 mod edit;
 pub mod line;
+pub mod lists;
 mod price;
-mod room;
+pub mod program;
 pub mod run;
 pub mod start;
 pub mod step;
@@ -30,6 +31,7 @@ pub enum Call {
 }
 
 // What is held beside the lists.
+// Kept: `stale` is no flag of a value beside it, so that no Option takes it in; header, marks and cut hold either way.
 #[derive(Clone, Copy)]
 pub struct Machine {
     pub volume: Volume,
@@ -40,18 +42,13 @@ pub struct Machine {
 }
 
 // What is printed.
+// Kept: one enum, since each is one of document 01's lines; a Result would be put together in each call, and taken apart where it is printed.
 #[derive(Clone, Copy)]
 pub enum Reply {
     Quiet,
     // The generation, and the sums of the sheet.
     Price(u64, Row),
+    // Kept: document 01's number as it is printed, since the definitions' refusals are numbers.
     Refused(u32),
     Broken,
-}
-
-// The reply to a call, and what is held after it.
-#[derive(Clone, Copy)]
-pub struct Turn {
-    pub machine: Machine,
-    pub reply: Reply,
 }

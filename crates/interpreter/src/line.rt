@@ -8,6 +8,8 @@ use io::decimal;
 use sheet::Row;
 
 // Puts the reply's line at the start of out, and answers its length. Rules out a line with no end, zeros in front of a number, another order of the numbers, and a byte changed behind the line.
+// Kept: bytes in a buffer of fixed length, here and below, so that a line is one write and nothing can fail; a Display fails where its writer does. This public call lends the bytes and answers their end, so the calls below, with `Appended`, do too.
+#[tactic(auto, unfolding(crate::specs::Line::line_of))]
 pub fn write_line(reply: Reply, out: &mut [u8; 96]) -> usize
     ensures prefix_len { IsPrefixLen result out.new }
     ensures out_after { (take result out.new ≡ line_of reply) × (drop result out.new ≡ drop result out.old) }
@@ -29,11 +31,12 @@ fn write_price(generation: u64, row: Row, out: &mut [u8; 96]) -> usize
     append_number(row.cents, b'\n', out, after_faces)
 }
 
+#[tactic(auto, unfolding(crate::specs::Line::line_of), using(crate::proofs::Writing::behind))]
 fn write_refused(number: u32, out: &mut [u8; 96]) -> usize
     ensures { Appended (line_of (Reply.Refused number)) out.old 0 out.new result }
 {
     let at = append(b"refused ", out, 0);
-    append_number(number as u64, b'\n', out, at)
+    append_number(u64::from(number), b'\n', out, at)
 }
 
 // Puts a number and the byte after it behind the first `at` bytes of out, and answers where they end.
@@ -50,15 +53,13 @@ fn append_number(n: u64, after: u8, out: &mut [u8; 96], at: usize) -> usize
 }
 
 // The same of a text.
+#[tactic(auto, using(crate::proofs::Writing::copied))]
 fn append(text: &[u8], out: &mut [u8], at: usize) -> usize
     requires { at + length text.now ≤ length out.old }
     ensures appended { Appended text.now out.old at out.new result }
     ensures value { result ≡ at + length text.now }
 {
-    let mut i = 0;
-    while i < text.len() {
-        out[at + i] = text[i];
-        i += 1;
-    }
-    at + i
+    let end = at + text.len();
+    out[at..end].copy_from_slice(text);
+    end
 }

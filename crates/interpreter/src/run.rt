@@ -1,64 +1,26 @@
 // One call.
 ghost use Rattle.std.specs.Prelude.{◌≡◌};
-ghost use Rattle.interpreter.specs.Room.{lists_of};
-ghost use Rattle.interpreter.specs.Run.{after_of, run_step};
+ghost use Rattle.interpreter.specs.Held.{Kept, lists_held};
+ghost use Rattle.interpreter.specs.Run.{after_of, run_step, turn_of};
 
-use crate::edit::{fill, open, set};
+use crate::edit::{Edit, make_edit};
+use crate::lists::Lists;
 use crate::price::{cut, quote, rate};
-use crate::{Call, Machine, Turn};
+use crate::{Call, Machine, Reply};
 
-// A call made on the stand. Rules out a refused opening that drops the old stand, and a refresh after a new rate that keeps old rows.
-pub fn run(
-    m: Machine,
-    call: Call,
-    cells: &mut [u16],
-    hashes: &mut [u64],
-    versions: &mut [u32],
-    log: &mut [u32],
-    last: &mut [u64],
-    rates: &mut [u32],
-    mask: &mut [u16],
-    sheet: &mut [u64],
-) -> Turn
-    ensures { after_of result (lists_of cells.new hashes.new versions.new log.new last.new rates.new mask.new sheet.new) ≡ run_step m (lists_of cells.old hashes.old versions.old log.old last.old rates.old mask.old sheet.old) call }
+// A call made on the stand, and the reply to it. Rules out a refused opening that drops the old stand, and a refresh after a new rate that keeps old rows.
+// Kept: a match over the enum of calls, each with its own fields; closures would be no plainer than these six lines.
+#[tactic(auto, unfolding(crate::specs::Run::run_step))]
+pub fn run(m: &mut Machine, call: Call, lists: &mut Lists) -> Reply
+    ensures outcome { after_of (turn_of m.new result) (lists_held lists.new) ≡ run_step m.old (lists_held lists.old) call }
+    ensures kept { Kept lists.old lists.new }
 {
     match call {
-        Call::Open(origin, size) => open(
-            m,
-            cells,
-            hashes,
-            versions,
-            log,
-            last,
-            sheet.len(),
-            origin,
-            size,
-        ),
-        Call::Set(cell, finish) => set(
-            m,
-            cells,
-            hashes,
-            versions,
-            log,
-            last,
-            sheet.len(),
-            cell,
-            finish,
-        ),
-        Call::Fill(from, to, finish) => fill(
-            m,
-            cells,
-            hashes,
-            versions,
-            log,
-            last,
-            sheet.len(),
-            from,
-            to,
-            finish,
-        ),
-        Call::Refresh => quote(m, cells, hashes, versions, log, last, rates, mask, sheet),
-        Call::Rate(finish, cents) => rate(m, rates, finish, cents),
+        Call::Open(origin, size) => make_edit(m, lists, Edit::Open(origin, size)),
+        Call::Set(cell, finish) => make_edit(m, lists, Edit::Set(cell, finish)),
+        Call::Fill(from, to, finish) => make_edit(m, lists, Edit::Fill(from, to, finish)),
+        Call::Refresh => quote(m, lists),
+        Call::Rate(finish, cents) => rate(m, &mut *lists.rates, finish, cents),
         Call::Cut(cents) => cut(m, cents),
     }
 }

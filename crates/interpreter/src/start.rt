@@ -4,29 +4,20 @@ ghost use Rattle.interpreter.specs.Start.{start_machine, unset};
 
 use crate::Machine;
 use sheet::Marks;
-use stand::Cell;
-use stand::volume::{Extent, Volume};
+use stand::volume::Volume;
 
 // The rate of a finish that has none: above the limit.
-const UNSET: u32 = 4_294_967_295;
+// Kept: a number, since the sheet takes its rates as a list of numbers, as C lends them, and refuses this one.
+const UNSET: u32 = u32::MAX;
 
 // No stand, and cut 0. Rules out a stand that a set could change, and a first refresh that measures nothing.
+// Kept: a header of zeros, which the stand's calls refuse by 3; with an Option each call here would test for it and answer that 3 by itself.
 pub fn start() -> Machine
     ensures { result ≡ start_machine }
 {
-    let origin = Cell { x: 0, y: 0, z: 0 };
-    let none = Extent { x: 0, y: 0, z: 0 };
-    let volume = Volume {
-        origin,
-        chunks: none,
-        size: none,
-        generation: 0,
-        solid: 0,
-    };
-    let marks = Marks { sheet: 0 };
     Machine {
-        volume,
-        marks,
+        volume: Volume::default(),
+        marks: Marks { sheet: 0 },
         stale: true,
         cut: 0,
     }

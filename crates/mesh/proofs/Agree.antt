@@ -9,7 +9,8 @@ use native.Mathlib.Omega.{arith}
 use lib.Dec.{eqb}
 use lib.ListN.{get_or, set}
 use lib.Seq.{get_or-set_other}
-use Rattle.mesh.specs.Scan.{Rect, State, clear_of, clear_rect, clear_run, fresh, place, rect_at, row_to, rows_len, rows_to, run_len, scan, slot, step_at}
+use Rattle.mesh.specs.Scan.{State, clear_of, clear_rect, clear_run, fresh, place, rect_at, row_to, rows_len, rows_to, run_len, scan, slot, step_at}
+use Rattle.mesh.specs.declared.claim.Rect.{Rect}
 use Rattle.mesh.proofs.Runs.{run-alike, run-most}
 use Rattle.mesh.proofs.Upto.{row_fits, upto-same}
 

@@ -1,4 +1,6 @@
 -- Laws of the claiming functions' loops: what holds after n turns, a turn more, and at the end.
+use Rattle.std.specs.List.{fold}
+use Rattle.std.proofs.lemmas.List.{get_or-take}
 use mathlib.Core.Path.{◌≡◌, refl, sym, ap, subst, ◌∙◌}
 use mathlib.Core.List.{List}
 use mathlib.Core.Logic.{⊎_elim}
@@ -7,12 +9,14 @@ use native.Mathlib.Nat.{add-zero, add-mul, eq-or-lt_of_le, le_refl}
 use native.Mathlib.Numerals.{add-one}
 use native.Mathlib.Omega.{arith}
 use borrow.Author.Count.{below_more}
-use lib.ListN.{get_or, set, length}
-use lib.Seq.{get_or-set_other, set-set}
+use lib.Bits.{bit_or}
+use lib.ListN.{get_or, set, length, take}
+use lib.Seq.{get_or-set_other, length-take-le, set-set}
 use Rattle.mesh.specs.Scan.{run_len, rows_len, clear_run, clear_rect, place, slot, rect_at, clear_of}
-use Rattle.mesh.specs.Claims.{TakePre, TakePost, RowsPre, RowsPost, ClaimPre, ClaimPost, Blank, NextSeen}
+use Rattle.mesh.specs.declared.claim.Rect.{Rect}
+use Rattle.mesh.specs.Claims.{TakePost, RowsPre, RowsPost, ClaimPre, ClaimPost, Blank, NextSeen}
 use Rattle.mesh.proofs.Upto.{row_fits}
-use Rattle.mesh.proofs.Runs.{run_is, run-alike, run-most, run_pass, run_stop, rows_is, rows-first, run-later, rect_later, clear_first, length-clear_run, length-clear_rect}
+use Rattle.mesh.proofs.Runs.{run_is, run-alike, run-most, run_pass, run_stop, rows_is, rows-first, run-later, rect_later, clear_first, fold_none}
 
 -- ---- take_run: the slots from `at` on, of which the first is cleared before the loop
 
@@ -34,9 +38,6 @@ taking_start m at most x l =
     record { some = le_refl _; high = l; mask = rw add-zero (sym (set-set m at 0 0)); held = λ i l1 l2. absurd (omega arith) }
 
 module _ {m₀ m : List ℕ} {at most x n : ℕ} (t : Taking m₀ m at most x n) where
-  pub taking_length : length m ≡ length m₀
-  taking_length = ap length t.mask ∙ length-clear_run m₀ at n
-
   taking_at : get_or m (at + n) 0 ≡ get_or m₀ (at + n) 0
   taking_at = ap (λ (l : List ℕ). get_or l (at + n) 0) t.mask ∙ run-later m₀ at n (at + n) (le_refl _)
 
@@ -50,11 +51,11 @@ module _ {m₀ m : List ℕ} {at most x n : ℕ} (t : Taking m₀ m at most x n)
         held = λ i l1 l2. below_more (λ (i : ℕ). 1 ≤ i → get_or m₀ (at + i) 0 ≡ x) n (λ i lt ge. t.held i ge lt) (λ ge. sym taking_at ∙ e) i l2 l1;
       }
 
-pub taken : {m m' : List ℕ} {at most x n : ℕ} → TakePre m at most x → Taking (set m at 0) m' at most x n
-    → (n < most → get_or m' (at + n) 0 ≡ x → ⊥) → TakePost m m' at most x n
-taken {m} {m'} {at} {most} {x} {n} p t end =
+pub taken : {m m' : List ℕ} {at most n : ℕ} → Taking (set m at 0) m' at most (get_or m at 0) n
+    → (n < most → get_or m' (at + n) 0 ≡ get_or m at 0 → ⊥) → TakePost m m' at most n
+taken {m} {m'} {at} {most} {n} t end =
     record {
-      run = run_is m at most x n t.high held (λ l e. end l (taking_at t ∙ apart n t.some ∙ e));
+      run = run_is m at most (get_or m at 0) n t.high held (λ l e. end l (taking_at t ∙ apart n t.some ∙ e));
       mask = t.mask ∙ cleared n t.some;
       low = t.some;
       high = t.high;
@@ -63,8 +64,8 @@ taken {m} {m'} {at} {most} {x} {n} p t end =
     apart : (i : ℕ) → 1 ≤ i → get_or (set m at 0) (at + i) 0 ≡ get_or m (at + i) 0
     apart i l = get_or-set_other m at (at + i) 0 0 (λ e. omega arith)
 
-    held : (i : ℕ) → i < n → get_or m (at + i) 0 ≡ x
-    held zero l = rw add-zero p.here
+    held : (i : ℕ) → i < n → get_or m (at + i) 0 ≡ get_or m at 0
+    held zero l = rw add-zero refl
     held (suc i) l = sym (apart (suc i) (omega arith)) ∙ t.held (suc i) (omega arith) l
 
     cleared : (n : ℕ) → 1 ≤ n → clear_run (set m at 0) at n ≡ clear_run m at n
@@ -83,9 +84,6 @@ unfolding clear_rect
 rows_start m w at run most x = record { high = omega arith; mask = refl; held = λ j l. absurd (omega arith) }
 
 module _ {m₀ m : List ℕ} {w at run most x n : ℕ} (t : TakingRows m₀ m w at run most x n) where
-  pub rows-length : length m ≡ length m₀
-  rows-length = ap length t.mask ∙ length-clear_rect m₀ w at run n
-
   -- the next row is as it was
   rows_at : run ≤ w → run_len m (at + n * w) run x ≡ run_len m₀ (at + n * w) run x
   rows_at l =
@@ -110,41 +108,21 @@ module _ {m₀ m : List ℕ} {w at run most x n : ℕ} (t : TakingRows m₀ m w 
         high = t.high;
       }
 
--- ---- claim_at
-
-done : (m : List ℕ) (w h u v : ℕ) {m₁ m₂ : List ℕ} {run rows : ℕ} → u < w → v < h → TakePost m m₁ (place w u v) (w - u) (slot w m u v) run
-    → RowsPost m₁ m₂ w (place w u v + w) run (h - v - 1) (slot w m u v) rows → ClaimPost m m₂ w h u v (record { run = run; rows = rows + 1 })
-unfolding rect_at clear_of
-done m w h u v {m₁} {m₂} {run} {rows} lu lv a b =
-    let p = place w u v in
-    let x = slot w m u v in
-    let ha = a.high in
-    let hb = b.high in
-    let eh : h - v ≡ suc (h - v - 1) = omega arith in
-    let held : (i : ℕ) → i < run → get_or m (p + i) 0 ≡ x = λ i l. run_pass m p (w - u) x i (omega (arith, a.run)) in
-    let rows_e : rows + 1 ≡ rows_len m w p run (h - v) x =
-    rw (eh, add-one) (ap suc (b.rows ∙ ap (λ (l : List ℕ). rows_len l w (p + w) run (h - v - 1) x) a.mask) ∙ sym (rows-first m w p run (h - v - 1) x (omega arith) held)) in
-    let mask_e : m₂ ≡ clear_rect m w p run (rows + 1) =
-    rw add-one (b.mask ∙ ap (λ (l : List ℕ). clear_rect l w (p + w) run rows) a.mask ∙ sym (clear_first m w p run rows)) in
+-- none where there are none, or the first slot holds another number
+pub rows_none : {m : List ℕ} {w at run most x : ℕ} → 1 ≤ run → (0 < most → get_or m at 0 ≡ x → ⊥) → RowsPost m m w at run most x 0
+unfolding clear_rect
+rows_none {m} {w} {at} {run} {most} {x} s h =
+    let z : at + 0 * w + 0 ≡ at = omega arith in
     record {
-      run = a.run;
-      rows = rows_e ∙ ap (λ (n : ℕ). rows_len m w p n (h - v) x) a.run;
-      mask = mask_e ∙ ap (λ (n : ℕ). clear_rect m w p run n) rows_e ∙ ap (λ (n : ℕ). clear_rect m w p n (rows_len m w p n (h - v) x)) a.run;
-      some-run = a.low;
-      some-rows = omega arith;
-      wide = omega arith;
+      rows = rows_is m w at run most x 0 (omega arith) (λ j l. absurd (omega arith)) (λ l e. h l (rw z at (run_pass m (at + 0 * w) run x 0 (omega (arith, e)))));
+      mask = refl;
       high = omega arith;
     }
 
-module _ {m : List ℕ} {w h u v at x : ℕ} (p : ClaimPre m w h u v at x) where
-  -- the row of (u, v) lies in the mask
-  pub claim_row : at + (w - u) ≤ length m
-  claim_row = let a = p.whole in let b = p.here in let c = p.first in omega (arith, row_fits w h v p.second)
+-- ---- claim_at
 
-  pub claim_take : TakePre m at (w - u) x
-  claim_take = let l = p.first in record { some = omega arith; room = claim_row; here = p.holds }
-
-  -- and so do the rows above it
+module _ {m : List ℕ} {w h u v at : ℕ} (p : ClaimPre m w h u v at) where
+  -- the rows above that of (u, v) lie in the mask
   pub claim_rows : (len run : ℕ) → len ≡ length m → run ≤ w - u → RowsPre len w (at + w) run (h - v - 1)
   claim_rows len run e l =
       record {
@@ -157,22 +135,41 @@ module _ {m : List ℕ} {w h u v at x : ℕ} (p : ClaimPre m w h u v at x) where
             omega (arith, row_fits w h (v + 1 + j) (omega arith), add-mul (v + 1) j w, add-mul v 1 w);
       }
 
-  pub claim_done : {m₁ m₂ : List ℕ} {run rows : ℕ} → TakePost m m₁ at (w - u) x run → RowsPost m₁ m₂ w (at + w) run (h - v - 1) x rows
-      → ClaimPost m m₂ w h u v (record { run = run; rows = rows + 1 })
-  claim_done a b =
-      let e : x ≡ slot w m u v = sym p.holds ∙ ap (λ (i : ℕ). get_or m i 0) p.here in
-      done m w h u v p.first p.second (rw (p.here, e) at a) (rw (p.here, e) at b)
+  pub claim_done : {m₁ m₂ : List ℕ} {run rows : ℕ} → TakePost m m₁ at (w - u) run → RowsPost m₁ m₂ w (at + w) run (h - v - 1) (get_or m at 0) rows
+      → ClaimPost m m₂ w h u v (record { u = u; v = v; run = run; rows = rows + 1; value = get_or m at 0 })
+  unfolding rect_at clear_of
+  claim_done {m₁} {m₂} {run} {rows} a b =
+      let x = get_or m at 0 in
+      let lu = p.first in
+      let lv = p.second in
+      let ha = a.high in
+      let hb = b.high in
+      let some = a.low in
+      let eh : h - v ≡ suc (h - v - 1) = omega arith in
+      let held : (i : ℕ) → i < run → get_or m (at + i) 0 ≡ x = λ i l. run_pass m at (w - u) x i (omega (arith, a.run)) in
+      let run_e : run ≡ run_len m (place w u v) (w - u) (slot w m u v) = a.run ∙ (λ i. run_len m (p.here i) (w - u) (get_or m (p.here i) 0)) in
+      let rows_e : rows + 1 ≡ rows_len m w at run (h - v) x =
+      rw (eh, add-one) (ap suc (b.rows ∙ ap (λ (l : List ℕ). rows_len l w (at + w) run (h - v - 1) x) a.mask) ∙ sym (rows-first m w at run (h - v - 1) x (omega arith) held)) in
+      let mask_e : m₂ ≡ clear_rect m w at run (rows + 1) =
+      rw add-one (b.mask ∙ ap (λ (l : List ℕ). clear_rect l w (at + w) run rows) a.mask ∙ sym (clear_first m w at run rows)) in
+      record {
+        rect = λ i. record { u = u; v = v; run = run_e i; rows = (rows_e ∙ (λ j. rows_len m w (p.here j) (run_e j) (h - v) (get_or m (p.here j) 0))) i; value = get_or m (p.here i) 0 };
+        mask = mask_e ∙ ap (λ (n : ℕ). clear_rect m w n run (rows + 1)) p.here;
+        some-run = a.low;
+        some-rows = omega arith;
+        wide = omega arith;
+        high = omega arith;
+      }
 
-  -- one row, where there is no row after it or that row's first slot holds another number
-  pub claim_one : {m₁ : List ℕ} {run : ℕ} → TakePost m m₁ at (w - u) x run → (0 < h - v - 1 → get_or m₁ (at + w) 0 ≡ x → ⊥)
-      → ClaimPost m m₁ w h u v (record { run = run; rows = 1 })
-  claim_one {m₁} {run} a end =
-      let lo = a.low in
-      let hi = a.high in
-      let z : at + w + 0 * w + 0 ≡ at + w = omega arith in
-      claim_done a
-      (rows_taken (rows_start m₁ w (at + w) run (h - v - 1) x) (omega arith)
-      (λ l e. end l (rw z at (run_pass m₁ (at + w + 0 * w) run x 0 (omega (arith, e))))))
+-- the slot that the rectangle was claimed from
+module _ {m m' : List ℕ} {w h u v : ℕ} {r : Rect} (p : ClaimPost m m' w h u v r) where
+  pub first-at : r.u ≡ u
+  unfolding rect_at
+  first-at = ap (λ (r : Rect). r.u) p.rect
+
+  pub second-at : r.v ≡ v
+  unfolding rect_at
+  second-at = ap (λ (r : Rect). r.v) p.rect
 
 -- ---- slots that are 0
 
@@ -194,15 +191,6 @@ blank-front {m} e z b =
       passed = λ i lo hi. ⊎_elim (λ d. subst (λ (j : ℕ). get_or m j 0 ≡ 0) d z) (λ l. b.passed i (omega arith) hi) (eq-or-lt_of_le lo);
     }
 
--- one slot more, after the others
-pub blank_more : {m : List ℕ} {from n q : ℕ} → q < n → get_or m q 0 ≡ 0 → Blank m from n q → Blank m from n (q + 1)
-blank_more {m} {q = q} l z b =
-    record {
-      low = omega (arith, b.low);
-      high = omega arith;
-      passed = λ i lo hi. let k : i ≤ q = omega arith in ⊎_elim (λ d. subst (λ (j : ℕ). get_or m j 0 ≡ 0) (sym d) z) (b.passed i lo) (eq-or-lt_of_le k);
-    }
-
 -- ---- next_seen
 
 pub next-seen : (m : List ℕ) (from n r : ℕ) → from < n → r ≡ run_len m from (n - from) 0 → NextSeen m from n (from + r)
@@ -216,12 +204,14 @@ next-seen m from n r l e =
       seen = λ k z. run_stop m from (n - from) 0 (omega arith) (rw e at z);
     }
 
-pub next-none : {m : List ℕ} {from n : ℕ} → from < n → from ≡ 0 → Blank m 0 n n → NextSeen m from n n
-next-none l e b =
+-- no bit in any slot
+pub next_none : (m : List ℕ) (from n a : ℕ) → n ≤ length m → from < n → from ≡ 0 → a ≡ fold bit_or 0 (take n m) → a ≡ 0 → NextSeen m from n n
+next_none m from n a h l z e o =
+    let b = (fold_none (take n m) 0 (sym e ∙ o)).1 in
     record {
       low = omega arith;
       high = λ _. omega arith;
       past = λ k. absurd (omega arith);
-      passed = λ i lo hi. b.passed i (omega arith) hi;
+      passed = λ i lo hi. sym (get_or-take n m i 0 hi) ∙ b i (omega (arith, length-take-le n m h));
       seen = λ k. absurd (omega arith);
     }

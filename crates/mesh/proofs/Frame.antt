@@ -10,7 +10,7 @@ use borrow.Author.Tests.{eqb-true, eqb-false, eq-eqb, ne_eqb, le-ltb, lt-ltb}
 use borrow.Rule.Slice.PartMut.{mid_len, mid_of, Post-is, put_mid}
 use lib.Dec.{eqb}
 use lib.IntN.{ℤ, pos, ◌+ℤ◌}
-use lib.ListN.{drop, get_or, length, length-append, length-map, take}
+use lib.ListN.{drop, get_or, length, length-append, length-map, set, take}
 use lib.Seq.{sets-eq}
 use mir.Syntax.{w32}
 use mir.Val.{SFits}
@@ -20,18 +20,20 @@ use Rattle.stand.specs.Cells.{cell_of}
 use Rattle.stand.specs.Shape.{Ranged, Shape, cell_from, levels_of}
 use Rattle.stand.specs.Sides.{axes_at, first_at, normal_at, second_at, side_number}
 use Rattle.stand.specs.Storage.{extent_of}
+use Rattle.stand.specs.declared.Axes.{Axes}
 use Rattle.stand.specs.declared.volume.shape.Region.{Region}
-use Rattle.mesh.specs.Axes.{along_axes, eight}
+use Rattle.stand.proofs.Sides.{six}
+use Rattle.mesh.specs.Axes.{put_along}
 use Rattle.mesh.specs.Claims.{Blank, ClaimPost}
 use Rattle.mesh.specs.Cover.{Each}
-use Rattle.mesh.specs.Frame.{Lies, StepPost, Wrote, along_frame, frame_of, next_at, quad_from, rect_of}
+use Rattle.mesh.specs.Frame.{Lies, StepPost, Wrote, along_frame, frame_of, next_at, quad_from}
 use Rattle.mesh.specs.Merge.{Cuts, cut_to, limits, total}
 use Rattle.mesh.specs.Panels.{boxes_of, face_of, nokey, quad_of, steps_of}
 use Rattle.mesh.specs.Part.{added, cell_in, facing, height_of, on_axis, turned, width_of}
 use Rattle.mesh.specs.Quad.{numbers_of, put_quad, write_from}
-use Rattle.mesh.specs.Scan.{Rect, State, clear_of, fresh, rect_at, row_to, rows_to, scan, slot, step_at}
+use Rattle.mesh.specs.Scan.{State, clear_of, fresh, rect_at, row_to, rows_to, scan, slot, step_at}
+use Rattle.mesh.specs.declared.claim.Rect.{Rect}
 use Rattle.mesh.specs.declared.Quad.{Quad}
-use Rattle.mesh.specs.declared.claim.Claim.{Claim}
 use Rattle.mesh.specs.declared.scan.Frame.{Frame}
 use Rattle.mesh.specs.declared.scan.Turn.{Turn}
 use Rattle.mesh.proofs.Scanned.{Fits, as_box, row_jump, row_skip, row_skips, scan-fits, scan-same, step_claim, step_skip}
@@ -47,40 +49,39 @@ side-number (suc (suc (suc (suc zero)))) h = refl
 side-number (suc (suc (suc (suc (suc zero))))) h = refl
 side-number (suc (suc (suc (suc (suc (suc s)))))) h = absurd (omega arith)
 
--- what the code has of a rectangle: normal, first and second, side, finish, run and rows
-pub record Values (f : Frame) (r : Rect) (a b c s x n m : ℤ) : Type 0 where
-  pub side_in : f.side < 6
-  pub axes : f.axes ≡ axes_at f.side
-  pub normal : a ≡ number_of f.normal
-  pub first : b ≡ number_of (f.first + r.u)
-  pub second : c ≡ number_of (f.second + r.v)
-  pub side : s ≡ pos f.side
-  pub finish : x ≡ pos r.value
-  pub run : n ≡ pos r.run
-  pub rows : m ≡ pos r.rows
+-- what holds of all lists of n numbers, their numbers named
+abbrev Named : ℕ → (List ℤ → Type 0) → Type 0
+Named zero P = P []
+Named (suc n) P = (x : ℤ) → Named n (λ q. P (x ∷ q))
 
--- what holds of the numbers along the axes holds along each axis
-along-turned : (g : ℕ → ℤ) (a s k u v : ℕ) → along_axes (axes_at s) a (g k) (g u) (g v) ≡ g (turned a s k u v)
-unfolding along_axes axes_at turned
-along-turned g a s k u v = go (eqb a (normal_at s)) (eqb a (first_at s))
-  where
-    go : (b c : Bool) → cond b (g k) (cond c (g u) (g v)) ≡ g (cond b k (cond c u v))
-    go true c = refl
-    go false true = refl
-    go false false = refl
+named : (n : ℕ) (P : List ℤ → Type 0) → Named n P → (q : List ℤ) → length q ≡ n → P q
+named zero P h [] l = h
+named zero P h (x ∷ q) l = absurd (omega arith)
+named (suc n) P h [] l = absurd (omega arith)
+named (suc n) P h (x ∷ q) l = named n (λ q. P (x ∷ q)) (h x) q (omega arith)
 
-pub numbers : {f : Frame} {r : Rect} {a b c s x n m : ℤ} → Values f r a b c s x n m → eight f.axes a b c s x n m ≡ numbers_of (quad_from f r)
-unfolding eight numbers_of quad_from along_frame facing
-numbers {f} {r} v =
-    (λ i. eight (v.axes i) (v.normal i) (v.first i) (v.second i) (v.side i) (v.finish i) (v.run i) (v.rows i))
-    ∙ (λ i. cell 0 i ∷ cell 1 i ∷ cell 2 i ∷ pos (sym (side-number f.side v.side_in) i) ∷ pos r.value ∷ size 0 i ∷ size 1 i ∷ size 2 i ∷ [])
-  where
-    cell : (a : ℕ) → along_axes (axes_at f.side) a (number_of f.normal) (number_of (f.first + r.u)) (number_of (f.second + r.v))
-        ≡ number_of (turned a f.side f.normal (f.first + r.u) (f.second + r.v))
-    cell a = along-turned number_of a f.side f.normal (f.first + r.u) (f.second + r.v)
+-- eight stores by axes x: k, u and v along them, side, finish, run and rows
+abbrev stored : List ℤ → Axes → ℤ → ℤ → ℤ → ℤ → ℤ → ℤ → ℤ → List ℤ
+stored q x k u v side finish run rows = put_along (set (set (put_along q x 0 k u v) 3 side) 4 finish) x 5 (pos 1) run rows
 
-    size : (a : ℕ) → along_axes (axes_at f.side) a (pos 1) (pos r.run) (pos r.rows) ≡ pos (turned a f.side 1 r.run r.rows)
-    size a = along-turned (λ m. pos m) a f.side 1 r.run r.rows
+-- are the panel's numbers
+pub numbers : (f : Frame) (r : Rect) → Lies f → (q : List ℤ) → length q ≡ 8 → {k u v side finish run rows : ℤ}
+    → k ≡ number_of f.normal → u ≡ number_of (f.first + r.u) → v ≡ number_of (f.second + r.v)
+    → side ≡ pos f.side → finish ≡ pos r.value → run ≡ pos r.run → rows ≡ pos r.rows
+    → stored q f.axes k u v side finish run rows ≡ numbers_of (quad_from f r)
+unfolding numbers_of quad_from along_frame facing turned axes_at normal_at first_at second_at
+numbers f r l q e ek eu ev es ef er ew =
+    let at = λ (i : ℕ). number_of i in
+    (λ i. stored q f.axes (ek i) (eu i) (ev i) (es i) (ef i) (er i) (ew i))
+    ∙ named 8 (λ q. stored q f.axes (at f.normal) (at (f.first + r.u)) (at (f.second + r.v)) (pos f.side) (pos r.value) (pos r.run) (pos r.rows) ≡ numbers_of (quad_from f r))
+    (λ a b c d e g h i.
+    rw l.axes
+    (six (λ s. stored (a ∷ b ∷ c ∷ d ∷ e ∷ g ∷ h ∷ i ∷ []) (axes_at s) (at f.normal) (at (f.first + r.u)) (at (f.second + r.v)) (pos s) (pos r.value) (pos r.run) (pos r.rows)
+    ≡ at (turned 0 s f.normal (f.first + r.u) (f.second + r.v)) ∷ at (turned 1 s f.normal (f.first + r.u) (f.second + r.v)) ∷ at (turned 2 s f.normal (f.first + r.u) (f.second + r.v))
+    ∷ pos (side_number (face_of s)) ∷ pos r.value
+    ∷ pos (turned 0 s 1 r.run r.rows) ∷ pos (turned 1 s 1 r.run r.rows) ∷ pos (turned 2 s 1 r.run r.rows) ∷ [])
+    refl refl refl refl refl refl f.side l.side))
+    q e
 
 -- the eight numbers of panel k, and the list with others in their place
 pub panel_part : (out : List ℤ) (k : ℕ) → k < length out / 8 → length (mid_of (k * 8) (k * 8 + 8 - k * 8) out) ≡ 8
@@ -221,20 +222,19 @@ module _ {f : Frame} {u v : ℕ} (lu : u < f.width) (m : List ℕ) (out : List �
         high = omega arith;
       }
 
-  pub step-put : {m' : List ℕ} {out' : List ℤ} {x : ℕ} {c : Claim} → (slot f.width m u v ≡ 0 → ⊥) → x ≡ slot f.width m u v
-      → ClaimPost m m' f.width f.height u v c → out' ≡ put_quad out count (quad_from f (rect_of u v c.run c.rows x))
-      → StepPost f u v m m' out out' count (record { next = u + c.run; count = count + 1 })
+  pub step-put : {m' : List ℕ} {out' : List ℤ} {r : Rect} → (slot f.width m u v ≡ 0 → ⊥)
+      → ClaimPost m m' f.width f.height u v r → out' ≡ put_quad out count (quad_from f r)
+      → StepPost f u v m m' out out' count (record { next = u + r.run; count = count + 1 })
   unfolding next_at rect_at write_from
-  step-put {m'} {out'} {x} {c} nz ex p put =
+  step-put {m'} {out'} {r} nz p put =
       let w = f.width in
       let h = f.height in
-      let e : rect_of u v c.run c.rows x ≡ rect_at w h m u v = λ i. record { u = u; v = v; run = p.run i; rows = p.rows i; value = ex i } in
       let some = p.some-run in
       record {
         wrote =
             subst (λ (s : State). Wrote f s m' out out' count (count + 1)) (sym (step_claim w h (fresh m) u v nz))
-            (record { mask = p.mask; list = put ∙ ap (λ (r : Rect). put_quad out count (quad_from f r)) e; total = refl });
-        next = rw (ne_eqb (slot w m u v) 0 nz) (ap (λ (n : ℕ). u + n) p.run);
+            (record { mask = p.mask ∙ ap (clear_of w m) p.rect; list = put ∙ ap (λ (r : Rect). put_quad out count (quad_from f r)) p.rect; total = refl });
+        next = rw (ne_eqb (slot w m u v) 0 nz) (ap (λ (r : Rect). u + r.run) p.rect);
         low = omega arith;
         high = p.wide;
       }

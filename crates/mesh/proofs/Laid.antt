@@ -1,36 +1,26 @@
 -- Laws of fills: masks of bits, fills joined below and beside, one slot or row more, and what callers read off a mask filled whole.
+use Rattle.std.specs.Option.{IsSomeAnd, MatchOption}
+use Rattle.std.specs.Prelude.{Option, Some, None}
 use mathlib.Core.Path.{◌≡◌, refl, sym, ap, ◌∙◌}
 use mathlib.Core.Bool.{Bool, true, false}
 use mathlib.Core.List.{List}
 use mathlib.Core.Logic.{◌⊎◌, inl, inr, ⊎_elim}
-use Prim.Native.Nat.{ℕ, zero, suc, ◌+◌, ◌*◌, ◌-◌, ◌/◌, ◌%◌, ◌^◌, ◌<◌, ◌≤◌}
-use native.Mathlib.Nat.{suc-mul, mul-le-mul_right, zero-mul, add-mul, mod-eq_of_lt, mod-lt, div-add-mod', div-lt_iff_lt-mul, eq-or-lt_of_le, mul-zero}
+use Prim.Native.Nat.{ℕ, zero, suc, ◌+◌, ◌*◌, ◌-◌, ◌/◌, ◌%◌, ◌<◌, ◌≤◌}
+use native.Mathlib.Nat.{suc-mul, mul-le-mul_right, zero-mul, add-mul, mod-lt, div-add-mod', div-lt_iff_lt-mul, eq-or-lt_of_le, mul-zero}
 use native.Mathlib.Omega.{arith}
-use borrow.Author.Tests.{eq-eqb, ne_eqb, ltb-true, ltb-false}
+use borrow.Author.Tests.{ltb-true, ltb-false}
 use lib.Dec.{ltb}
-use lib.Bits.{bit_and, bit_or, and_mask, and_le_l, and_le_r, or_add_and}
+use lib.Bits.{bit_or, and_le_l, and_le_r, or_add_and}
 use lib.ListN.{get_or, length, set, length-set}
 use lib.Seq.{get_or-set_same, get_or-set_other}
-use Rattle.mesh.specs.Plane.{Laid, Quiet, Filled, RowIn, RowTo, PlaneIn, PlaneTo, seen_at}
+use Rattle.mesh.specs.Plane.{Filled, Laid, Quiet, plane_shown, row_shown}
+use Rattle.mesh.specs.declared.plane.Grid.{Grid}
+use Rattle.mesh.specs.declared.plane.Line.{Line}
 
 -- ---- bits
 
-pub and_all : (x : ℕ) → x < 2 ^ 16 → bit_and x 65535 ≡ x
-and_all x l = and_mask x 16 ∙ mod-eq_of_lt l
-
 pub or_none : (a b : ℕ) → bit_or a b ≡ 0 → (a ≡ 0) × (b ≡ 0)
 or_none a b e = omega (arith, or_add_and a b, and_le_l a b, and_le_r a b)
-
--- ---- a cell seen
-
-module _ (here next : List ℕ) (i j : ℕ) where
-  pub seen : get_or next j 0 ≡ 0 → seen_at here next i j ≡ get_or here i 0
-  unfolding seen_at
-  seen e = rw (eq-eqb (get_or next j 0) 0 e)
-
-  pub unseen : (get_or next j 0 ≡ 0 → ⊥) → seen_at here next i j ≡ 0
-  unfolding seen_at
-  unseen e = rw (ne_eqb (get_or next j 0) 0 e)
 
 -- ---- a fill over equal numbers, and of one row, for which no pitch counts
 
@@ -167,12 +157,13 @@ filled_row {n = n} {f = f} d l x =
 
 -- ---- what the rows of a plane ask
 
-pub row_in : {at first second w h len : ℕ} → PlaneIn at first second w h len → (v : ℕ) → v < h → RowIn (at + v * second) first w len
-row_in p v l = record { room = λ u k. p.room u v k l }
-
-pub row_to : {to pitch w h slots at first second cells : ℕ} → PlaneTo to pitch w h slots at first second cells → (v : ℕ) → v < h → {slots' : ℕ} → slots' ≡ slots
-    → RowTo (to + v * pitch) w slots' (at + v * second) first cells
-row_to p v l e = record { mask = omega (arith, p.mask.room v l); here = row_in p.here v l }
+-- a row of two planes, k and o the lines that it begins at
+pub row_planes : (g : Grid) (v : ℕ) (here k : Line) (next o : Option Line) → k.cells ≡ here.cells → k.at ≡ here.at + v * g.second
+    → MatchOption next (o ≡ None) (λ n. IsSomeAnd o (λ r. (r.cells ≡ n.cells) × (r.at ≡ n.at + v * g.second)))
+    → (u x : ℕ) → row_shown k o g.first u x ≡ plane_shown here next g u v
+row_planes g v here k None o e a m u x = rw (m, e, a) refl
+row_planes g v here k (Some n) None e a m u x = absurd m
+row_planes g v here k (Some n) (Some r) e a m u x = rw (m.0, m.1, e, a) refl
 
 -- ---- what callers read off a mask filled whole, its rows side by side
 

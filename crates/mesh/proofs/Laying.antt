@@ -1,36 +1,39 @@
 -- A slice laid over a mask, and the call that lays it.
+use Rattle.std.specs.Prelude.{Result, IsErrAnd}
 use mathlib.Core.Path.{◌≡◌, refl, sym, ap, ◌∙◌}
 use mathlib.Core.Bool.{Bool, true, false}
 use mathlib.Core.List.{List, [], ◌∷◌, ◌++◌}
-use Prim.Native.Nat.{ℕ, zero, suc, ◌*◌, ◌/◌, ◌≤◌, ◌<◌}
+use Prim.Native.Nat.{ℕ, zero, suc, ◌*◌, ◌≤◌, ◌<◌}
 use native.Mathlib.Omega.{arith}
-use borrow.Author.Tests.{le-leb, le-ltb, lt-leb, lt-ltb, ltb-false, ltb-true}
-use lib.Dec.{leb, ltb}
+use borrow.Author.Tests.{le-ltb, lt-ltb, ltb-false, ltb-true}
+use lib.Dec.{ltb}
 use lib.ListN.{get_or-append, drop, get_or, length}
+use Rattle.stand.specs.Answer.{answer_of, refusal_number}
 use Rattle.stand.specs.Edit.{look}
 use Rattle.stand.specs.Refusal.{Rule, ◌⇒◌, first, gives, list_rules, refused}
-use Rattle.stand.specs.Shape.{Ranged, Shape, sections, shape_of, well_formed}
+use Rattle.stand.specs.Shape.{Shape, shape_of}
 use Rattle.stand.specs.Sides.{side_number}
 use Rattle.stand.specs.declared.Cell.{Cell}
 use Rattle.stand.specs.declared.Face.{Face}
 use Rattle.stand.specs.declared.volume.Volume.{Volume}
 use Rattle.stand.specs.declared.volume.shape.Region.{Region}
-use Rattle.stand.proofs.Shape.{formed-opens}
-use Rattle.stand.proofs.Refusal.{first_part, first_rest, numbered}
-use Rattle.mesh.specs.Faces.{wiped}
-use Rattle.mesh.specs.Lay.{Sliced, SomePart, laid_mask, over, slice_call, slice_of, sliced, sliced_of}
+use Rattle.stand.specs.declared.volume.refusal.Refusal.{Refusal}
+use Rattle.stand.specs.declared.volume.refusal.Refusal.TheVariants as R
+use Rattle.stand.specs.declared.volume.view.View.{View}
+use Rattle.stand.proofs.Refusal.{begun, exit_is, first_rest, numbered, some_number}
+use Rattle.mesh.specs.Faces.{chunk_rules, wiped}
+use Rattle.mesh.specs.Lay.{Sliced, laid_mask, over, slice_call, slice_of, sliced, sliced_of}
 use Rattle.mesh.specs.Part.{cell_in, depth_of, height_of, largest_side, section_part, slice_mask, slot_shown, width_of}
 use Rattle.mesh.specs.Plane.{Filled}
-use Rattle.mesh.specs.Scan.{clear_run}
-use Rattle.mesh.specs.Tiles.{PartIs, part_of}
-use Rattle.mesh.specs.Visible.{shown}
+use Rattle.mesh.specs.Scene.{look_in, open_in, shape_in}
+use Rattle.mesh.specs.Tiles.{part_of}
+use Rattle.mesh.specs.Visible.{empty_beyond, shown}
 use Rattle.mesh.specs.declared.slice.Slice.{Slice}
-use Rattle.mesh.specs.declared.tiles.Part.{Part}
-use Rattle.mesh.proofs.Called.{chunk_inside, cleared_wiped, sections_are}
+use Rattle.mesh.specs.declared.Beyond.{Beyond}
+use Rattle.mesh.specs.declared.scene.Part.{Part}
+use Rattle.mesh.proofs.Called.{scene_of}
 use Rattle.mesh.proofs.Laid.{whole-at, whole-beyond}
 use Rattle.mesh.proofs.Listed.{same_slots}
-use Rattle.mesh.proofs.Made.{section-part_in}
-use Rattle.mesh.proofs.Parts.{section-on}
 use Rattle.mesh.proofs.Slices.{get_or-table, length-table}
 
 -- ---- a list over the first slots
@@ -76,68 +79,72 @@ module _ (beyond : Bool) (g : Shape) (look : Cell → ℕ) (r : Region) (s : ℕ
 
 -- ---- the call
 
-module _ (v : Volume) (cells : List ℕ) (i : ℕ) (f : Face) (k : ℕ) (beyond : Bool) (m : List ℕ) {n : ℕ} (e : n ≡ first (list_rules 4096 v (length cells))) where
+module _ (v : Volume) (cells : List ℕ) (i : ℕ) (f : Face) (k : ℕ) (beyond : Bool) (m : List ℕ) where
   abbrev part : Region
   part = section_part (shape_of v) i
 
-  abbrev rest : List Rule
-  rest = (leb (sections (shape_of v)) i ⇒ 7) ∷ (ltb (length m) (largest_side part) ⇒ 10) ∷ []
+  abbrev rules : List Rule
+  rules = list_rules 4096 v (length cells)
+
+  abbrev mask_rules : List Rule
+  mask_rules = (ltb (length m) (largest_side part) ⇒ 10) ∷ []
 
   abbrev result : ℕ → Sliced
   result c =
       sliced c (slice_of (shape_of v) part f k) m
       (laid_mask beyond (shape_of v) (look (shape_of v) cells) part (side_number f) k (wiped (largest_side part) m))
 
-  turned_by : (c : ℕ) → (c ≡ 0 → ⊥) → sliced_of (refused c) m ≡ result c
-  unfolding sliced
-  turned_by zero h = absurd (h refl)
-  turned_by (suc c) h = refl
+  turned_by : (d : Refusal) → refusal_number d ≡ first (rules ++ (chunk_rules v i ++ mask_rules)) → sliced_of (refused (refusal_number d)) m ≡ slice_call v cells i f k beyond m
+  unfolding slice_call sliced
+  turned_by d e = by (refusal_number d) (some_number d) ∙ ap result e
+    where
+      by : (n : ℕ) → (n ≡ 0 → ⊥) → sliced_of (refused n) m ≡ result n
+      by zero h = absurd (h refl)
+      by (suc n) h = refl
 
-  pub slice-turned : (n ≡ 0 → ⊥) → sliced_of (refused n) m ≡ slice_call v cells i f k beyond m
-  unfolding slice_call
-  slice-turned h = turned_by n h ∙ ap result (e ∙ sym (first_part (list_rules 4096 v (length cells)) rest (λ z. h (e ∙ z))))
+  exit : (d : Refusal) (r : Result Slice Refusal) → IsErrAnd r (λ f. f ≡ d) → refusal_number d ≡ first (rules ++ (chunk_rules v i ++ mask_rules)) → sliced_of (answer_of r) m ≡ slice_call v cells i f k beyond m
+  exit d r x e = ap (λ (r : Result Slice Refusal). sliced_of (answer_of r) m) (exit_is d r x) ∙ turned_by d e
 
-  module _ (z : n ≡ 0) where
-    by_rest : first (list_rules 4096 v (length cells) ++ rest) ≡ first rest
+  pub slice_turned : (d : Refusal) (r : Result Slice Refusal) → IsErrAnd r (λ f. f ≡ d) → refusal_number d ≡ first rules → sliced_of (answer_of r) m ≡ slice_call v cells i f k beyond m
+  slice_turned d r x e = exit d r x (begun d rules (chunk_rules v i ++ mask_rules) e)
+
+  module _ (z : first rules ≡ 0) where
+    by_rest : first (rules ++ (chunk_rules v i ++ mask_rules)) ≡ first (chunk_rules v i ++ mask_rules)
     unfolding numbered
-    by_rest = first_rest (list_rules 4096 v (length cells)) rest refl (sym e ∙ z)
+    by_rest = first_rest rules (chunk_rules v i ++ mask_rules) refl z
 
-    pub slice-high : length cells / 4096 ≤ i → sliced_of (refused 7) m ≡ slice_call v cells i f k beyond m
-    unfolding slice_call first
-    slice-high h =
-        turned_by 7 (λ x. omega arith)
-        ∙ ap result (sym (by_rest ∙ rw (le-leb (sections (shape_of v)) i (omega (arith, sections_are v cells e i z, h)))))
+    pub slice_high : (d : Refusal) (r : Result Slice Refusal) → IsErrAnd r (λ f. f ≡ d) → refusal_number d ≡ first (chunk_rules v i) → sliced_of (answer_of r) m ≡ slice_call v cells i f k beyond m
+    slice_high d r x e = exit d r x (begun d (chunk_rules v i) mask_rules e ∙ sym by_rest)
 
-    module _ (l : i < length cells / 4096) {w : ℕ} (q : w ≡ largest_side part) where
-      pub slice_small : length m < w → sliced_of (refused 10) m ≡ slice_call v cells i f k beyond m
-      unfolding slice_call first
-      slice_small h =
-          turned_by 10 (λ x. omega arith)
-          ∙ ap result (sym (by_rest ∙ rw (lt-leb (sections (shape_of v)) i (chunk_inside v cells e i z l), lt-ltb (length m) (largest_side part) (omega (arith, q)))))
+    module _ (q : first (chunk_rules v i) ≡ 0) where
+      by_mask : first (rules ++ (chunk_rules v i ++ mask_rules)) ≡ first mask_rules
+      unfolding numbered
+      by_mask = by_rest ∙ first_rest (chunk_rules v i) mask_rules refl q
 
-      pub slice-given : {s : Slice} {m₁ m₂ : List ℕ} {r : Region} {o : Bool} {d : ℕ} → w ≤ length m → o ≡ beyond → d ≡ side_number f → r ≡ part → m₁ ≡ clear_run m 0 w
-          → m₂ ≡ laid_mask o (shape_of v) (look (shape_of v) cells) r d k m₁ → s ≡ slice_of (shape_of v) r f k
-          → sliced_of (gives s) m₂ ≡ slice_call v cells i f k beyond m
+      pub slice_small : {w : ℕ} → w ≡ largest_side part → length m < w → sliced_of (refused 10) m ≡ slice_call v cells i f k beyond m
+      unfolding first
+      slice_small e h = turned_by R.MaskTooShort (sym (by_mask ∙ rw (lt-ltb (length m) (largest_side part) (omega (arith, e)))))
+
+      pub slice_given : {s : Slice} {m' : List ℕ} → largest_side part ≤ length m
+          → m' ≡ laid_mask beyond (shape_of v) (look (shape_of v) cells) part (side_number f) k (wiped (largest_side part) m) → s ≡ slice_of (shape_of v) part f k
+          → sliced_of (gives s) m' ≡ slice_call v cells i f k beyond m
       unfolding slice_call first sliced
-      slice-given {s} {m₁} {m₂} h p d r c a b =
-          let x : m₁ ≡ wiped (largest_side part) m = c ∙ cleared_wiped w m h ∙ ap (λ (j : ℕ). wiped j m) q in
-          let y = a ∙ (λ j. laid_mask (p j) (shape_of v) (look (shape_of v) cells) (r j) (d j) k (x j)) in
-          let t = b ∙ (λ j. slice_of (shape_of v) (r j) f k) in
-          let u : first (list_rules 4096 v (length cells) ++ rest) ≡ 0 =
-          by_rest ∙ rw (lt-leb (sections (shape_of v)) i (chunk_inside v cells e i z l), le-ltb (length m) (largest_side part) (omega (arith, q))) in
-          (λ j. sliced_of (gives (t j)) (y j)) ∙ ap result (sym u)
+      slice_given h a b =
+          let t : first (rules ++ (chunk_rules v i ++ mask_rules)) ≡ 0 = by_mask ∙ rw (le-ltb (length m) (largest_side part) h) in
+          (λ j. sliced_of (gives (b j)) (a j)) ∙ ap result (sym t)
 
--- a section has a cell
-pub section-some : (v : Volume) (i : ℕ) {p : Part} → well_formed v ≡ true → Ranged v.origin → i < sections (shape_of v) → PartIs (shape_of v) p
-    → part_of (shape_of v) p ≡ section_part (shape_of v) i → SomePart (shape_of v) p
-unfolding shape_of
-section-some v i h o l q r =
-    record {
-      opened = formed-opens v h;
-      ranged = o;
-      part = q;
-      within = section-part_in (shape_of v) i l r;
-      x = rw r (section-on (shape_of v) i l 0).some;
-      y = rw r (section-on (shape_of v) i l 1).some;
-      z = rw r (section-on (shape_of v) i l 2).some;
-    }
+-- the scene of the call
+pub slice_seen : (v : Volume) (cells m : List ℕ) (i : ℕ) (f : Face) (k : ℕ) (b : Beyond) (w : View) (p : Part) {s : Slice} {n : ℕ} {m₁ m' : List ℕ}
+    → w.header.volume ≡ v → w.cells.now ≡ cells → p.scene ≡ scene_of w b → part_of p ≡ section_part (shape_in (scene_of w b)) i
+    → first (list_rules 4096 v (length cells)) ≡ 0 → first (chunk_rules v i) ≡ 0
+    → n ≡ largest_side (part_of p) → n ≤ length m → m₁ ≡ wiped n m
+    → s ≡ slice_of (shape_in p.scene) (part_of p) f k → m' ≡ laid_mask (open_in p.scene) (shape_in p.scene) (look_in p.scene) (part_of p) (side_number f) k m₁
+    → sliced_of (gives s) m' ≡ slice_call v cells i f k (empty_beyond b) m
+slice_seen v cells m i f k b w p {s} {n} {m₁} {m'} ev ec at r z q en h c es em =
+    let rv : part_of p ≡ section_part (shape_of v) i = r ∙ (λ j. section_part (shape_of (ev j)) i) in
+    let nv = en ∙ ap largest_side rv in
+    slice_given v cells i f k (empty_beyond b) m z q (omega (arith, nv))
+    (em
+    ∙ (λ j. laid_mask (open_in (at j)) (shape_in (at j)) (look_in (at j)) (rv j) (side_number f) k (c j))
+    ∙ (λ j. laid_mask (empty_beyond b) (shape_of (ev j)) (look (shape_of (ev j)) (ec j)) (section_part (shape_of v) i) (side_number f) k (wiped (nv j) m)))
+    (es ∙ (λ j. slice_of (shape_in (at j)) (rv j) f k) ∙ (λ j. slice_of (shape_of (ev j)) (section_part (shape_of v) i) f k))

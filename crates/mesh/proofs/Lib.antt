@@ -28,6 +28,5 @@ pub mod Stretches
 pub mod Tables
 pub mod Tiling
 pub mod Upto
-pub mod Wanting
 pub mod Whole
 pub mod Written

@@ -6,19 +6,21 @@ use native.Mathlib.Nat.{le_refl, mul-le-mul, mul_assoc, mul_comm, mul_left_comm}
 use native.Mathlib.Omega.{arith}
 use Rattle.stand.specs.Shape.{Below, Ranged, Shape, chunk_place, chunks_in, chunks_on, corner, counted, counts_of, levels_of, max_chunks, opens, point_of, product, sections, shape_of, well_formed}
 use Rattle.stand.specs.Sides.{axes_at, first_at, normal_at, second_at}
-use Rattle.stand.specs.declared.Axes.{Axes}
 use Rattle.stand.specs.declared.volume.Volume.{Volume}
+use Rattle.stand.specs.declared.volume.formed.Formed.{Formed}
 use Rattle.stand.specs.declared.volume.shape.Point.{Point}
 use Rattle.stand.specs.declared.volume.shape.Region.{Region}
-use Rattle.stand.proofs.Shape.{Within, chunks-some, formed-counts, goods, sections-few}
+use Rattle.stand.proofs.Shape.{Within, chunks-some, formed-counts, formed-opens, goods, sections-few}
 use Rattle.mesh.specs.Frame.{Lies, frame_of}
-use Rattle.mesh.specs.Part.{added, depth_of, height_of, largest_side, on_axis, section_part, whole_part, width_of}
-use Rattle.mesh.specs.Step.{SectionIs}
-use Rattle.mesh.specs.Tiles.{PartIn, PartIs, part_of, tiled}
-use Rattle.mesh.specs.declared.part.Section.{Section}
-use Rattle.mesh.specs.declared.tiles.Part.{Part}
-use Rattle.mesh.proofs.Parts.{place_in, points, section_in, side_largest, whole_in}
-use Rattle.mesh.proofs.Step.{added-on, counted-on, level_on, room-on}
+use Rattle.mesh.specs.Part.{PartLies, added, cut_at, depth_of, height_of, largest_side, on_axis, section_part, tiled, whole_part, width_of}
+use Rattle.mesh.specs.Scene.{shape_in}
+use Rattle.mesh.specs.Step.{part_in}
+use Rattle.mesh.specs.Tiles.{PartIn, part_of}
+use Rattle.mesh.specs.declared.axes.Side.{Side}
+use Rattle.mesh.specs.declared.scene.Part.{Part}
+use Rattle.mesh.specs.declared.scene.Section.{Section}
+use Rattle.mesh.proofs.Parts.{place_in, points, side_largest}
+use Rattle.mesh.proofs.Step.{added-on, counted-on, level_on, opened, room-on}
 
 -- ---- bounds
 
@@ -77,91 +79,110 @@ module _ (g : Shape) (o : opens g ≡ true) where
 
 -- ---- a box of sections
 
--- the depth, as the code reads it
-pub depth_made : {g : Shape} {p : Part} (s : ℕ) {d : ℕ} {axes : Axes} → PartIs g p → axes ≡ axes_at s → d ≡ on_axis axes.normal p.count
-    → d ≡ depth_of (part_of g p) s
-unfolding axes_at depth_of
-depth_made s i e d = d ∙ (λ j. on_axis (e j).normal (i.count j))
+abbrev pub largest_of : Point → ℕ
+largest_of n = max (n.x * n.y) (max (n.x * n.z) (n.y * n.z))
 
-module _ (g : Shape) (p : Part) (i : PartIs g p) where
-  tiled-most : (a : ℕ) → on_axis a (part_of g p).count ≤ on_axis a (counted g) * 16
+-- its extents, as the code reads them
+module _ (p : Part) (t : Side) {d : ℕ} where
+  pub depth_made : d ≡ on_axis t.axes.normal p.count → d ≡ depth_of (part_of p) t.number
+  unfolding axes_at depth_of
+  depth_made e = e ∙ (λ j. on_axis (t.read j).normal (p.lies.count j))
+
+  pub width_made : d ≡ on_axis t.axes.first p.count → d ≡ width_of (part_of p) t.number
+  unfolding axes_at width_of
+  width_made e = e ∙ (λ j. on_axis (t.read j).first (p.lies.count j))
+
+  pub height_made : d ≡ on_axis t.axes.second p.count → d ≡ height_of (part_of p) t.number
+  unfolding axes_at height_of
+  height_made e = e ∙ (λ j. on_axis (t.read j).second (p.lies.count j))
+
+module _ (p : Part) where
+  abbrev shape : Shape
+  shape = shape_in p.scene
+
+  o : opens shape ≡ true
+  o = opened p.scene
+
+  tiled-most : (a : ℕ) → on_axis a (part_of p).count ≤ on_axis a (counted shape) * 16
   unfolding tiled
-  tiled-most zero = omega (arith, i.x)
-  tiled-most (suc zero) = omega (arith, i.y)
-  tiled-most (suc (suc a)) = omega (arith, i.z)
+  tiled-most zero = omega (arith, p.lies.x)
+  tiled-most (suc zero) = omega (arith, p.lies.y)
+  tiled-most (suc (suc a)) = omega (arith, p.lies.z)
 
-  module _ (o : opens g ≡ true) where
-    pub part-product : product (part_of g p).count ≤ 4096 * max_chunks
-    unfolding product sections
-    part-product =
-        let few : (counted g).x * (counted g).y * (counted g).z ≤ max_chunks = sections-few g o in
-        let xyz = mul-le-mul (mul-le-mul (tiled-most 0) (tiled-most 1)) (tiled-most 2) in
-        let e : (counted g).x * 16 * ((counted g).y * 16) * ((counted g).z * 16) ≡ (counted g).x * (counted g).y * (counted g).z * 4096 = scaled_product (counted g).x (counted g).y (counted g).z in
-        omega arith
-      where
-        scaled_product : (a b d : ℕ) → a * 16 * (b * 16) * (d * 16) ≡ a * b * d * 4096
-        scaled_product a b d = simp (mul_assoc, mul_comm, mul_left_comm) (omega arith)
+  -- it lies in the size
+  pub part-within : PartIn shape (part_of p)
+  unfolding tiled counted chunks_in chunks_on
+  part-within =
+      let l = p.lies in
+      record { x = omega (arith, l.some_x, l.x); y = omega (arith, l.some_y, l.y); z = omega (arith, l.some_z, l.z) }
 
-    -- each of its counts, and so the code's products
-    pub part-below : Below (16 * max_chunks + 1) p.count
-    part-below =
-        subst (Below (16 * max_chunks + 1)) (sym i.count)
-        (record {
-          x = omega (arith, tiled-most 0, counted-few g o 0);
-          y = omega (arith, tiled-most 1, counted-few g o 1);
-          z = omega (arith, tiled-most 2, counted-few g o 2);
-        })
+  pub part-product : product (part_of p).count ≤ 4096 * max_chunks
+  unfolding product sections
+  part-product =
+      let k = counted shape in
+      let few : k.x * k.y * k.z ≤ max_chunks = sections-few shape o in
+      let xyz = mul-le-mul (mul-le-mul (tiled-most 0) (tiled-most 1)) (tiled-most 2) in
+      let e : k.x * 16 * (k.y * 16) * (k.z * 16) ≡ k.x * k.y * k.z * 4096 = scaled_product k.x k.y k.z in
+      omega arith
+    where
+      scaled_product : (a b d : ℕ) → a * 16 * (b * 16) * (d * 16) ≡ a * b * d * 4096
+      scaled_product a b d = simp (mul_assoc, mul_comm, mul_left_comm) (omega arith)
+
+  -- each of its counts, and so the code's products
+  pub part-below : Below (16 * max_chunks + 1) p.count
+  part-below =
+      subst (Below (16 * max_chunks + 1)) (sym p.lies.count)
+      (record {
+        x = omega (arith, tiled-most 0, counted-few shape o 0);
+        y = omega (arith, tiled-most 1, counted-few shape o 1);
+        z = omega (arith, tiled-most 2, counted-few shape o 2);
+      })
+
+  pub largest_is : {r : ℕ} → r ≡ largest_of p.count → r ≡ largest_side (part_of p)
+  unfolding largest_side
+  largest_is e = e ∙ ap largest_of p.lies.count
 
 -- ---- the most slots of a slice
 
 pub part_slots : (r : Region) (s : ℕ) → s < 6 → height_of r s * width_of r s ≤ largest_side r
 part_slots r s h = omega (arith, side_largest r s h, mul_comm (width_of r s) (height_of r s))
 
-abbrev pub largest_of : Point → ℕ
-largest_of n = max (n.x * n.y) (max (n.x * n.z) (n.y * n.z))
-
-pub largest_is : (g : Shape) (p : Part) {r : ℕ} → PartIs g p → r ≡ largest_of p.count → r ≡ largest_side (part_of g p)
-unfolding largest_side
-largest_is g p i e = e ∙ ap largest_of i.count
-
--- no such product wraps
-pub slots_few : (a b : ℕ) → a < 16 * max_chunks + 1 → b < 16 * max_chunks + 1 → a * b ≤ 256 * max_chunks * max_chunks
-slots_few a b ha hb = mul-le-mul {n₂ = 16 * max_chunks} {m₂ = 16 * max_chunks} (omega arith) (omega arith)
+-- the most slots of a section's slices, by its corner
+pub chunk_largest : (h : Formed) (v : Volume) (i : ℕ) {d n : Point} {w : ℕ} → h.volume ≡ v → d ≡ corner (counts_of h.volume.chunks) i → n ≡ cut_at (shape_of h.volume) d
+    → w ≡ largest_of n → w ≡ largest_side (section_part (shape_of v) i)
+unfolding largest_side section_part
+chunk_largest h v i ev ed en ew =
+    ew
+    ∙ ap largest_of (en ∙ ap (cut_at (shape_of h.volume)) (ed ∙ ap (λ (k : Point). corner k i) (formed-counts h.volume h.formed)))
+    ∙ ap (λ (v : Volume). largest_of (section_part (shape_of v) i).count) ev
 
 -- ---- the part of a section, and of the whole stand
-
-abbrev pub part_from : Point → Point → Point → Point → Point → Part
-part_from low count place across chunks = record { low = low; count = count; place = place; across = across; chunks = chunks }
-
--- a part that is one given otherwise
-made : (g : Shape) (r : Region) {low count place across chunks : Point} → tiled g place across ≡ r
-    → place.x + across.x ≤ (counted g).x → place.y + across.y ≤ (counted g).y → place.z + across.z ≤ (counted g).z
-    → low ≡ added (levels_of g.origin) r.low → count ≡ r.count → chunks ≡ counted g
-    → PartIs g (part_from low count place across chunks) × (tiled g place across ≡ r)
-made g r e x y z low count chunks = (
-  record {
-    chunks = chunks;
-    x = x;
-    y = y;
-    z = z;
-    low = low ∙ ap (λ (q : Region). added (levels_of g.origin) q.low) (sym e);
-    count = count ∙ ap (λ (q : Region). q.count) (sym e);
-  },
-  e,
-)
 
 section-tiled : (g : Shape) (i : ℕ) → tiled g (chunk_place (counted g) i) (point_of 1 1 1) ≡ section_part g i
 unfolding tiled section_part corner
 section-tiled g i = refl
 
-pub section_made : (g : Shape) (i : ℕ) {c : Section} → i < sections g → SectionIs g i c
-    → PartIs g (part_from c.low c.count c.place (point_of 1 1 1) c.chunks)
-    × (tiled g c.place (point_of 1 1 1) ≡ section_part g i)
-unfolding sections
-section_made g i {c} h s =
-    let w = subst (Within (counted g)) (sym s.place) (place_in (counted g) i h) in
-    made g (section_part g i) (ap (λ (q : Point). tiled g q (point_of 1 1 1)) s.place ∙ section-tiled g i)
-    (omega (arith, w.x)) (omega (arith, w.y)) (omega (arith, w.z)) s.low s.count s.chunks
+module _ (c : Section) where
+  pub section_tiled : tiled (shape_in c.scene) c.place (point_of 1 1 1) ≡ part_in c
+  section_tiled = ap (λ (q : Point). tiled (shape_in c.scene) q (point_of 1 1 1)) c.lies.place ∙ section-tiled (shape_in c.scene) c.chunk
+
+  pub section_made : PartLies (shape_in c.scene) c.low c.count c.place (point_of 1 1 1) c.chunks
+  unfolding sections
+  section_made =
+      let l = c.lies in
+      let w = subst (Within (counted (shape_in c.scene))) (sym l.place) (place_in (counted (shape_in c.scene)) c.chunk l.chunk) in
+      record {
+        ranged = l.ranged;
+        chunks = l.chunks;
+        some_x = omega arith;
+        some_y = omega arith;
+        some_z = omega arith;
+        x = omega (arith, w.x);
+        y = omega (arith, w.y);
+        z = omega (arith, w.z);
+        low = l.low ∙ ap (λ (q : Region). added (levels_of (shape_in c.scene).origin) q.low) (sym section_tiled);
+        count = l.count ∙ ap (λ (q : Region). q.count) (sym section_tiled);
+      }
 
 whole-on : (n : ℕ) → min (chunks_on n * 16) (n - 0 * 16) ≡ n
 unfolding chunks_on
@@ -171,20 +192,24 @@ whole-tiled : (g : Shape) → tiled g (point_of 0 0 0) (counted g) ≡ whole_par
 unfolding tiled whole_part counted chunks_in
 whole-tiled g = λ i. record { low = point_of 0 0 0; count = point_of (whole-on g.size.x i) (whole-on g.size.y i) (whole-on g.size.z i) }
 
-pub whole_made : (v : Volume) {low count chunks : Point} → well_formed v ≡ true
-    → low ≡ levels_of v.origin → count ≡ counts_of v.size → chunks ≡ counts_of v.chunks
-    → PartIs (shape_of v) (part_from low count (point_of 0 0 0) chunks chunks)
-    × (tiled (shape_of v) (point_of 0 0 0) chunks ≡ whole_part (shape_of v))
-unfolding shape_of whole_part added
-whole_made v {low} {count} {chunks} ok el ec ek =
-    let k : chunks ≡ counted (shape_of v) = ek ∙ formed-counts v ok in
-    made (shape_of v) (whole_part (shape_of v)) (ap (tiled (shape_of v) (point_of 0 0 0)) k ∙ whole-tiled (shape_of v))
-    (omega (arith, ap (λ (q : Point). q.x) k)) (omega (arith, ap (λ (q : Point). q.y) k)) (omega (arith, ap (λ (q : Point). q.z) k))
-    (el ∙ points (omega arith) (omega arith) (omega arith)) ec k
+module _ (v : Volume) (ok : well_formed v ≡ true) {k : Point} (ek : k ≡ counts_of v.chunks) where
+  pub whole_tiled : tiled (shape_of v) (point_of 0 0 0) k ≡ whole_part (shape_of v)
+  whole_tiled = ap (tiled (shape_of v) (point_of 0 0 0)) (ek ∙ formed-counts v ok) ∙ whole-tiled (shape_of v)
 
--- both lie inside the stand
-pub section-part_in : (g : Shape) (i : ℕ) {r : Region} → i < sections g → r ≡ section_part g i → PartIn g r
-section-part_in g i h e = subst (PartIn g) (sym e) (section_in g i h)
-
-pub whole-part_in : (g : Shape) {r : Region} → r ≡ whole_part g → PartIn g r
-whole-part_in g e = subst (PartIn g) (sym e) (whole_in g)
+  pub whole_made : {low count : Point} → Ranged v.origin → low ≡ levels_of v.origin → count ≡ counts_of v.size → PartLies (shape_of v) low count (point_of 0 0 0) k k
+  unfolding shape_of whole_part added counted chunks_in opens
+  whole_made r el ec =
+      let e : k ≡ counted (shape_of v) = ek ∙ formed-counts v ok in
+      let q = goods v.origin (shape_of v).size (counted (shape_of v)) (formed-opens v ok) in
+      record {
+        ranged = r;
+        chunks = e;
+        some_x = omega (arith, ap (λ (q : Point). q.x) e, chunks-some _ q.x.some);
+        some_y = omega (arith, ap (λ (q : Point). q.y) e, chunks-some _ q.y.some);
+        some_z = omega (arith, ap (λ (q : Point). q.z) e, chunks-some _ q.z.some);
+        x = omega (arith, ap (λ (q : Point). q.x) e);
+        y = omega (arith, ap (λ (q : Point). q.y) e);
+        z = omega (arith, ap (λ (q : Point). q.z) e);
+        low = el ∙ points (omega arith) (omega arith) (omega arith) ∙ ap (λ (q : Region). added (levels_of v.origin) q.low) (sym whole_tiled);
+        count = ec ∙ ap (λ (q : Region). q.count) (sym whole_tiled);
+      }

@@ -2,14 +2,13 @@
 use mathlib.Core.Path.{◌≡◌, refl, sym, ap, ◌∙◌, subst}
 use mathlib.Core.Bool.{Bool}
 use mathlib.Core.List.{List}
-use mathlib.Core.Option.{Option, none, some}
+use Rattle.std.specs.Prelude.{Option, Some, None}
 use Prim.Native.Nat.{ℕ, zero, suc, ◌+◌, ◌*◌, ◌^◌, ◌≤◌, ◌<◌, zero-le}
 use native.Mathlib.Nat.{add-mul, le_refl, mul-le-mul}
 use native.Mathlib.Numerals.{add-one}
 use native.Mathlib.Omega.{arith}
 use lib.IntN.{ℤ}
 use lib.ListN.{length, length-append}
-use Rattle.stand.specs.Edit.{look}
 use Rattle.stand.specs.Shape.{Shape, product}
 use Rattle.stand.specs.Sides.{axes_at, face_at, side_number}
 use Rattle.stand.specs.declared.Axes.{Axes}
@@ -20,15 +19,17 @@ use Rattle.mesh.specs.Cover.{faces_on}
 use Rattle.mesh.specs.Frame.{Lies, ScanPost, ScanPre, Wrote, frame_of}
 use Rattle.mesh.specs.Listed.{Listed}
 use Rattle.mesh.specs.Panels.{panels_to, side_panels, slice_panels}
-use Rattle.mesh.specs.Part.{depth_of, height_of, on_axis, slot_shown, width_of}
-use Rattle.mesh.specs.Plane.{Filled}
+use Rattle.mesh.specs.Part.{depth_of, height_of, largest_side, on_axis, slot_shown, width_of}
 use Rattle.mesh.specs.Scan.{scan}
-use Rattle.mesh.specs.Tiles.{MeshIn, SideIn, SliceLies, part_of, part_shown}
+use Rattle.mesh.specs.Scene.{look_in, open_in, shape_in}
+use Rattle.mesh.specs.Tiles.{Cleared, PartFilled, part_of, side_slots}
 use Rattle.mesh.specs.declared.scan.Frame.{Frame}
-use Rattle.mesh.specs.declared.tiles.Part.{Part}
+use Rattle.mesh.specs.declared.axes.Side.{Side}
+use Rattle.mesh.specs.declared.scene.Part.{Part}
 use Rattle.mesh.proofs.Facing.{facing-product, part-size}
 use Rattle.mesh.proofs.Listed.{listed_more, slice-listed}
-use Rattle.mesh.proofs.Made.{part-product, part_slots, region_lies}
+use Rattle.mesh.proofs.Made.{height_made, part-product, part-within, part_slots, region_lies, width_made}
+use Rattle.mesh.proofs.Step.{opened}
 use Rattle.mesh.proofs.Panels.{slice-few}
 use Rattle.mesh.proofs.Slices.{seen-sum}
 
@@ -37,46 +38,45 @@ use Rattle.mesh.proofs.Slices.{seen-sum}
 abbrev pub frame_from : ℕ → Axes → ℕ → ℕ → ℕ → ℕ → ℕ → Frame
 frame_from s x n a b w h = record { side = s; axes = x; normal = n; first = a; second = b; width = w; height = h }
 
-pub slice-lies : {g : Shape} {p : Part} {s k : ℕ} → SliceLies g p s k → Lies (frame_of g (part_of g p) s k)
-slice-lies {g} {p} {s} {k} l = region_lies g l.opened (part_of g p) l.within l.ranged s k l.side l.slice
+module _ (p : Part) (t : Side) {k : ℕ} (deep : k < depth_of (part_of p) t.number) where
+  pub slice-lies : Lies (frame_of (shape_in p.scene) (part_of p) t.number k)
+  slice-lies = region_lies (shape_in p.scene) (opened p.scene) (part_of p) (part-within p) p.lies.ranged t.number k t.known deep
 
-pub normal-fits : {g : Shape} {p : Part} {s k n : ℕ} {axes : Axes} → SliceLies g p s k → axes ≡ axes_at s → n ≡ on_axis axes.normal p.low → n + k < 4294967296
-unfolding frame_of axes_at
-normal-fits l e pn = omega (arith, (slice-lies l).normal, pn ∙ (λ j. on_axis (e j).normal (l.part.low j)))
+  pub normal-fits : {n : ℕ} → n ≡ on_axis t.axes.normal p.low → n + k < 4294967296
+  unfolding frame_of axes_at
+  normal-fits e = omega (arith, slice-lies.normal, e ∙ (λ j. on_axis (t.read j).normal (p.lies.low j)))
 
-pub frame_made : {g : Shape} {p : Part} {s k n a b w h : ℕ} {axes : Axes} → SliceLies g p s k → axes ≡ axes_at s
-    → n ≡ on_axis axes.normal p.low → a ≡ on_axis axes.first p.low → b ≡ on_axis axes.second p.low
-    → w ≡ on_axis axes.first p.count → h ≡ on_axis axes.second p.count
-    → frame_from s axes (n + k) a b w h ≡ frame_of g (part_of g p) s k
-unfolding frame_of axes_at width_of height_of
-frame_made {s = s} {k} l e pn pa pb pw ph =
-    let low = l.part.low in
-    let count = l.part.count in
-    λ i. frame_from s (e i)
-    ((pn ∙ (λ j. on_axis (e j).normal (low j))) i + k)
-    ((pa ∙ (λ j. on_axis (e j).first (low j))) i)
-    ((pb ∙ (λ j. on_axis (e j).second (low j))) i)
-    ((pw ∙ (λ j. on_axis (e j).first (count j))) i)
-    ((ph ∙ (λ j. on_axis (e j).second (count j))) i)
+  pub frame_made : {n a b w h : ℕ} → n ≡ on_axis t.axes.normal p.low → a ≡ on_axis t.axes.first p.low → b ≡ on_axis t.axes.second p.low
+      → w ≡ on_axis t.axes.first p.count → h ≡ on_axis t.axes.second p.count
+      → frame_from t.number t.axes (n + k) a b w h ≡ frame_of (shape_in p.scene) (part_of p) t.number k
+  unfolding frame_of axes_at
+  frame_made pn pa pb pw ph =
+      let e = t.read in
+      let low = p.lies.low in
+      λ i. frame_from t.number (e i)
+      ((pn ∙ (λ j. on_axis (e j).normal (low j))) i + k)
+      ((pa ∙ (λ j. on_axis (e j).first (low j))) i)
+      ((pb ∙ (λ j. on_axis (e j).second (low j))) i)
+      (width_made p t pw i)
+      (height_made p t ph i)
 
 -- ---- one slice
 
-module _ {g : Shape} {cells m : List ℕ} {p : Part} {s n : ℕ} {f : Frame} (k : ℕ) (i : SideIn g cells m p s) (e : f ≡ frame_of g (part_of g p) s k) (lies : Lies f) where
+module _ (p : Part) (s k : ℕ) {n : ℕ} {m : List ℕ} {f : Frame} (z : Cleared (side_slots p s) m) (e : f ≡ frame_of (shape_in p.scene) (part_of p) s k) (lies : Lies f) where
   pub scan_asks : {len : ℕ} → len ≡ length m → n ≤ 2 ^ 62 → ScanPre len f n
   unfolding frame_of
   scan_asks {len} l few =
       record {
         lies = lies;
-        whole = subst (λ (f : Frame). f.height * f.width ≤ len) (sym e) (omega (arith, i.room, l));
+        whole = subst (λ (f : Frame). f.height * f.width ≤ len) (sym e) (omega (arith, z.room, l));
         few = few;
       }
 
-  pub slice-wrote : (beyond : Bool) {a c : ℕ} {m₁ m₂ : List ℕ} {out out' : List ℤ}
-      → Filled m m₁ a 0 (width_of (part_of g p) s) (width_of (part_of g p) s) (height_of (part_of g p) s) (part_shown beyond g cells p s k)
-      → ScanPost f m₁ m₂ out out' n c → Listed (slice_panels beyond g (look g cells) (part_of g p) s k) m m₂ out out' n c
+  pub slice-wrote : {a c : ℕ} {m₁ m₂ : List ℕ} {out out' : List ℤ} → PartFilled p s k m m₁ a → ScanPost f m₁ m₂ out out' n c
+      → Listed (slice_panels (open_in p.scene) (shape_in p.scene) (look_in p.scene) (part_of p) s k) m m₂ out out' n c
   unfolding frame_of
-  slice-wrote beyond {c = c} {m₁} {m₂} {out} {out'} fill o =
-      slice-listed beyond g (look g cells) (part_of g p) s k i.zero fill i.ranged (subst Lies e lies)
+  slice-wrote {c = c} {m₁} {m₂} {out} {out'} fill o =
+      slice-listed (open_in p.scene) (shape_in p.scene) (look_in p.scene) (part_of p) s k z.zero fill p.lies.ranged (subst Lies e lies)
       (subst (λ (f : Frame). Wrote f (scan f.width f.height m₁) m₂ out out' n c) e o.wrote)
 
 -- ---- how many panels
@@ -108,14 +108,26 @@ module _ (beyond : Bool) (g : Shape) (look : Cell → ℕ) (r : Region) where
 
 -- ---- one side
 
-module _ {g : Shape} {cells m : List ℕ} {p : Part} {s : ℕ} (i : SideIn g cells m p s) where
-  pub side_still : {m' : List ℕ} → m' ≡ m → SideIn g cells m' p s
-  side_still e = subst (λ (m : List ℕ). SideIn g cells m p s) (sym e) i
+module _ (p : Part) where
+  abbrev shape : Shape
+  shape = shape_in p.scene
 
   -- the number of panels stays far from what usize holds
-  pub side-room : (beyond : Bool) (k : ℕ) {n c : ℕ} → k ≤ depth_of (part_of g p) s → n ≤ 2 ^ 61
-      → c ≡ n + length (side_panels beyond g (look g cells) (part_of g p) s k) → c ≤ 2 ^ 62
-  side-room beyond k l few e = omega (arith, side-few beyond g (look g cells) (part_of g p) s i.side k l, part-product g p i.part i.opened)
+  pub side-room : {s : ℕ} → s < 6 → (k : ℕ) {n c : ℕ} → k ≤ depth_of (part_of p) s → n ≤ 2 ^ 61
+      → c ≡ n + length (side_panels (open_in p.scene) shape (look_in p.scene) (part_of p) s k) → c ≤ 2 ^ 62
+  side-room {s} h k l few e = omega (arith, side-few (open_in p.scene) shape (look_in p.scene) (part_of p) s h k l, part-product p)
+
+  pub sides_room : (s : ℕ) {c : ℕ} → s ≤ 6 → c ≡ 0 + length (panels_to (open_in p.scene) shape (look_in p.scene) (part_of p) s) → c ≤ 2 ^ 61
+  sides_room s l e =
+      let b = part-product p in
+      let m = mul-le-mul l b in
+      omega (arith, sides_few (open_in p.scene) shape (look_in p.scene) (part_of p) s l)
+
+  -- where any slice of the part is cleared, one of a side is
+  pub side_cleared : {m m' : List ℕ} {s : ℕ} → Cleared (largest_side (part_of p)) m → m' ≡ m → s < 6 → Cleared (side_slots p s) m'
+  side_cleared {s = s} i e l =
+      let few = part_slots (part_of p) s l in
+      rw e (record { room = omega (arith, i.room); zero = λ q lq. i.zero q (omega arith) })
 
 module _ (beyond : Bool) (g : Shape) (look : Cell → ℕ) (r : Region) {m₀ m₁ m₂ : List ℕ} {out₀ out₁ out₂ : List ℤ} {n₀ n₁ n₂ : ℕ} where
   pub side_more : (s k : ℕ) → Listed (side_panels beyond g look r s k) m₀ m₁ out₀ out₁ n₀ n₁ → Listed (slice_panels beyond g look r s k) m₁ m₂ out₁ out₂ n₁ n₂
@@ -128,35 +140,11 @@ module _ (beyond : Bool) (g : Shape) (look : Cell → ℕ) (r : Region) {m₀ m�
   unfolding panels_to
   sides_more e a b = rw add-one (listed_more a (subst (λ (s : ℕ). Listed (side_panels beyond g look r s (depth_of r s)) m₁ m₂ out₁ out₂ n₁ n₂) e b))
 
--- ---- all sides
-
-module _ {g : Shape} {cells m : List ℕ} {p : Part} (i : MeshIn g cells m p) where
-  pub side_of : {m' : List ℕ} {s : ℕ} → m' ≡ m → s < 6 → SideIn g cells m' p s
-  side_of {m'} {s} e l =
-      let few = part_slots (part_of g p) s l in
-      subst (λ (m : List ℕ). SideIn g cells m p s) (sym e)
-      (record {
-        opened = i.opened;
-        ranged = i.ranged;
-        cells_are = i.cells_are;
-        part = i.part;
-        within = i.within;
-        side = l;
-        room = omega (arith, i.room);
-        zero = λ q lq. i.zero q (omega arith);
-      })
-
-  pub sides_room : (beyond : Bool) (s : ℕ) {c : ℕ} → s ≤ 6 → c ≡ 0 + length (panels_to beyond g (look g cells) (part_of g p) s) → c ≤ 2 ^ 61
-  sides_room beyond s l e =
-      let b = part-product g p i.part i.opened in
-      let m = mul-le-mul l b in
-      omega (arith, sides_few beyond g (look g cells) (part_of g p) s l)
-
 -- ---- a side by its number
 
 abbrev number_or : Option Face → ℕ
-number_or none = 6
-number_or (some f) = side_number f
+number_or None = 6
+number_or (Some f) = side_number f
 
 number_at : (s : ℕ) → s < 6 → number_or (face_at s) ≡ s
 number_at zero l = refl
@@ -168,8 +156,5 @@ number_at (suc (suc (suc (suc (suc zero))))) l = refl
 number_at (suc (suc (suc (suc (suc (suc s)))))) l = absurd (omega arith)
 
 module _ (s : ℕ) (l : s < 6) where
-  pub side-some : {f : Face} → some f ≡ face_at s → side_number f ≡ s
-  side-some e = ap number_or e ∙ number_at s l
-
-  pub side-none : none ≡ face_at s → ⊥
+  pub side-none : None ≡ face_at s → ⊥
   side-none e = let n : 6 ≡ s = ap number_or e ∙ number_at s l in omega (arith, n)

@@ -14,7 +14,7 @@ use Rattle.stand.proofs.Formed.{some-x, some-y}
 use Rattle.stand.proofs.Shape.{Within, inside-from, slot-from}
 use Rattle.stand.proofs.Sides.{six}
 use Rattle.stand.proofs.Slots.{section-place}
-use Rattle.mesh.specs.Part.{added, cell_in, depth_of, facing, height_of, largest_side, on_axis, section_part, turned, whole_part, width_of}
+use Rattle.mesh.specs.Part.{added, cell_in, depth_of, facing, height_of, largest_side, on_axis, section_part, turned, width_of}
 use Rattle.mesh.specs.Step.{stride_on}
 use Rattle.mesh.specs.Tiles.{PartIn}
 
@@ -51,10 +51,6 @@ facing-below s h k u v p =
     s h
 
 -- ---- parts inside a shape
-
-pub whole_in : (g : Shape) → PartIn g (whole_part g)
-unfolding whole_part
-whole_in g = record { x = omega arith; y = omega arith; z = omega arith }
 
 -- a cell of a slice of a part
 module _ (g : Shape) (r : Region) (s k u v : ℕ) (p : PartIn g r) (h : s < 6) (hk : k < depth_of r s) (hu : u < width_of r s) (hv : v < height_of r s) where

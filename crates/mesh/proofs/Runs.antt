@@ -1,16 +1,23 @@
 -- Runs and rows of a mask, and what clearing them leaves.
+use Rattle.std.specs.List.{fold, position, prefix_len, slice_range}
+use Rattle.std.specs.Option.{unwrap_or}
+use Rattle.std.specs.Prelude.{Some, None, ◌==◌}
+use Rattle.std.proofs.lemmas.List.{get_or-drop, get_or-take}
+use Rattle.std.proofs.lemmas.List.Sums.{prefix_len-le-length, prefix_len_passes, prefix_len_stops}
 use mathlib.Core.Path.{◌≡◌, refl, sym, ap, ◌∙◌}
-use mathlib.Core.Bool.{true}
-use mathlib.Core.List.{List}
-use Prim.Native.Nat.{ℕ, zero, suc, ◌+◌, ◌*◌, ◌≤◌, ◌<◌}
+use mathlib.Core.Bool.{Bool, true, false, cond, not, not-not}
+use mathlib.Core.List.{List, [], ◌∷◌}
+use Prim.Native.Nat.{ℕ, zero, suc, ◌+◌, ◌-◌, ◌*◌, ◌≤◌, ◌<◌}
 use native.Mathlib.Nat.{add-zero, zero-mul, suc-mul}
 use native.Mathlib.Omega.{arith}
-use borrow.Author.Tests.{eqb-true, eqb-false, eq-eqb, ne_eqb}
-use lib.Dec.{eqb}
-use lib.ListN.{get_or, length, length-set}
-use lib.Seq.{get_or-set_other}
+use borrow.Author.Tests.{eqb-true, eqb-false, eq-eqb, ltb-false, ne_eqb}
+use lib.Bits.{bit_or}
+use lib.Dec.{eqb, ltb}
+use lib.ListN.{drop, get_or, length, length-drop, length-set}
+use lib.Seq.{get_or-set_other, length-take-le}
 use Rattle.mesh.specs.Merge.{upto}
 use Rattle.mesh.specs.Scan.{run_len, rows_len, clear_run, clear_rect}
+use Rattle.mesh.proofs.Laid.{or_none}
 use Rattle.mesh.proofs.Upto.{upto_is, upto_of, upto-same, upto-some, upto_all}
 
 -- ---- how long a run is
@@ -114,3 +121,49 @@ unfolding clear_rect
 clear_first m w p run zero = rw (zero-mul, add-zero)
 clear_first m w p run (suc k) =
     rw (below w p k) (ap (λ (l : List ℕ). clear_run l (p + w + k * w) run) (clear_first m w p run k))
+
+-- ---- by the library's words
+
+-- the first slot that does not hold x ends the run
+pub run_first : (m : List ℕ) (p k x : ℕ) → p + k ≤ length m → unwrap_or (position (λ y. not (y == x)) (slice_range m p (p + k))) k ≡ run_len m p k x
+run_first m p k x h = go (ltb n (length xs)) refl ∙ run_is m p k x n most (λ i l. sym (at i (omega (arith, most))) ∙ pass i l) stop
+  where
+    xs : List ℕ
+    xs = slice_range m p (p + k)
+
+    q : ℕ → Bool
+    q y = not (not (y == x))
+
+    n : ℕ
+    n = prefix_len q xs
+
+    long : length xs ≡ k
+    long = length-take-le (p + k - p) (drop p m) (omega (arith, length-drop p m)) ∙ omega arith
+
+    most : n ≤ k
+    most = omega (arith, prefix_len-le-length q xs, long)
+
+    at : (i : ℕ) → i < k → get_or xs i 0 ≡ get_or m (p + i) 0
+    at i l = get_or-take (p + k - p) (drop p m) i 0 (omega arith) ∙ get_or-drop p m i 0
+
+    pass : (i : ℕ) → i < n → get_or xs i 0 ≡ x
+    pass i l = eqb-true _ _ (sym (not-not _) ∙ prefix_len_passes q xs i 0 l)
+
+    stop : n < k → get_or m (p + n) 0 ≡ x → ⊥
+    stop l e = eqb-false _ _ (sym (not-not _) ∙ prefix_len_stops q xs 0 (omega (arith, long))) (at n l ∙ e)
+
+    go : (b : Bool) → ltb n (length xs) ≡ b → unwrap_or (cond b (Some n) None) k ≡ n
+    go true e = refl
+    go false e = omega (arith, ltb-false n (length xs) e, most, long)
+
+-- no bit in any of the slots
+pub fold_none : (xs : List ℕ) (a : ℕ) → fold bit_or a xs ≡ 0 → (a ≡ 0) × ((i : ℕ) → i < length xs → get_or xs i 0 ≡ 0)
+fold_none [] a e = (e, λ i l. absurd (omega arith))
+fold_none (x ∷ xs) a e =
+    let t = fold_none xs (bit_or a x) e in
+    let o = or_none a x t.0 in
+    (o.0, go o.1 t.1)
+  where
+    go : x ≡ 0 → ((i : ℕ) → i < length xs → get_or xs i 0 ≡ 0) → (i : ℕ) → i < length (x ∷ xs) → get_or (x ∷ xs) i 0 ≡ 0
+    go z t zero l = z
+    go z t (suc i) l = t i (omega arith)

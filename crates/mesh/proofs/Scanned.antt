@@ -10,7 +10,8 @@ use lib.Dec.{eqb}
 use lib.ListN.{get_or, length, length-append}
 use Rattle.mesh.specs.Cover.{Each}
 use Rattle.mesh.specs.Merge.{Dir, Box, Cuts, full, all, grow, rep, clear_box, alike, box_at, cut, cut_to, total, limits}
-use Rattle.mesh.specs.Scan.{Rect, State, fresh, place, slot, run_len, rows_len, clear_run, clear_rect, rect_at, clear_of, step_at, row_to, rows_to, scan}
+use Rattle.mesh.specs.Scan.{State, fresh, place, slot, run_len, rows_len, clear_run, clear_rect, rect_at, clear_of, step_at, row_to, rows_to, scan}
+use Rattle.mesh.specs.declared.claim.Rect.{Rect}
 use Rattle.mesh.proofs.Boxes.{clear_in, clear_zero}
 use Rattle.mesh.proofs.Merged.{each_append, Parted, merged}
 use Rattle.mesh.proofs.Runs.{run-most, run_pass, run-some, rows-most, rows-some}

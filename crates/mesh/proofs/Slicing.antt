@@ -2,9 +2,9 @@
 use mathlib.Core.Path.{◌≡◌, refl, sym, ap, ◌∙◌, subst}
 use mathlib.Core.Bool.{Bool, true, false, cond, ◌&&◌}
 use mathlib.Core.List.{List, [], ◌∷◌, ◌++◌, append_assoc, append-nil, map, map-append}
-use mathlib.Core.Option.{none, some}
+use Rattle.std.specs.Prelude.{Some, None}
 use Prim.Native.Nat.{ℕ, zero, suc, ◌+◌, ◌*◌, ◌-◌, ◌/◌, ◌%◌, ◌≤◌, ◌<◌, min}
-use native.Mathlib.Nat.{add-suc, add-zero, div-add-mod', div-eq_of_lt, div-lt_iff_lt-mul, le-div_iff_mul-le, le_refl, mod-eq_of_lt, mod-lt, mul-add-div_right, mul-add-mod_self_right, mul-zero, suc-mul, zero-mul}
+use native.Mathlib.Nat.{add-suc, add-zero, div-add-mod', div-eq_of_lt, le-div_iff_mul-le, le_refl, mod-eq_of_lt, mul-add-div_right, mul-add-mod_self_right, mul-zero, suc-mul, zero-mul}
 use native.Mathlib.Numerals.{add-one}
 use native.Mathlib.Omega.{arith}
 use borrow.Author.Tests.{le-leb, le-ltb, lt-ltb, leb-true, leb-false, ltb-true, ltb-false}
@@ -23,14 +23,14 @@ use Rattle.stand.specs.Shape.{Below, point_of}
 use Rattle.stand.specs.Sides.{first_at, normal_at}
 use Rattle.stand.specs.Storage.{extent_of}
 use Rattle.stand.specs.declared.volume.shape.Point.{Point}
-use Rattle.mesh.specs.Claims.{ClaimPost, ClaimPre, NextSeen}
-use Rattle.mesh.specs.Frame.{Lies, along_frame, quad_from, rect_of}
+use Rattle.mesh.specs.Claims.{ClaimPost, NextSeen}
+use Rattle.mesh.specs.Frame.{Lies, along_frame, quad_from}
 use Rattle.mesh.specs.Panels.{face_of}
 use Rattle.mesh.specs.Part.{facing, turned}
-use Rattle.mesh.specs.Scan.{Rect, State, clear_of, fresh, place, rect_at, row_to, rows_to, run_len, scan, slot, step_at}
+use Rattle.mesh.specs.Scan.{State, clear_of, fresh, place, rect_at, row_to, rows_to, run_len, scan, slot, step_at}
+use Rattle.mesh.specs.declared.claim.Rect.{Rect}
 use Rattle.mesh.specs.Slice.{Claims, Outcome, claim_call, claim_from, claims_to, first_seen, onward, held_extent, outcome_of, quad_in, rect_from, shifted, slice_from}
 use Rattle.mesh.specs.declared.Quad.{Quad}
-use Rattle.mesh.specs.declared.claim.Claim.{Claim}
 use Rattle.mesh.specs.declared.scan.Frame.{Frame}
 use Rattle.mesh.specs.declared.slice.Slice.{Slice}
 use Rattle.mesh.proofs.Frame.{map_each, side-number}
@@ -117,14 +117,14 @@ first-seen {m} {from} {n} {q} s = go (leb n from) refl
 -- ---- the call
 
 module _ (s : Slice) (m : List ℕ) (from : ℕ) where
-  none_by : (s.height * s.width ≤ length m → s.height * s.width ≤ first_seen m from (s.height * s.width)) → outcome_of none m ≡ claim_call s m from
+  none_by : (s.height * s.width ≤ length m → s.height * s.width ≤ first_seen m from (s.height * s.width)) → outcome_of None m ≡ claim_call s m from
   unfolding claim_call
   none_by h = go (leb (s.height * s.width) (length m)) refl
     where
       n : ℕ
       n = s.height * s.width
 
-      go : (b : Bool) → leb n (length m) ≡ b → outcome_of none m ≡ cond (b && ltb (first_seen m from n) n) (claim_from s m (first_seen m from n)) (outcome_of none m)
+      go : (b : Bool) → leb n (length m) ≡ b → outcome_of None m ≡ cond (b && ltb (first_seen m from n) n) (claim_from s m (first_seen m from n)) (outcome_of None m)
       go true e = rw (le-ltb (first_seen m from n) n (h (leb-true n (length m) e)))
       go false e = refl
 
@@ -133,14 +133,14 @@ module _ (s : Slice) (m : List ℕ) (from : ℕ) where
   unfolding claim_call
   call-some l h = rw (le-leb (s.height * s.width) (length m) l, lt-ltb (first_seen m from (s.height * s.width)) (s.height * s.width) h)
 
-  pub none-narrow : s.width ≡ 0 → outcome_of none m ≡ claim_call s m from
+  pub none-narrow : s.width ≡ 0 → outcome_of None m ≡ claim_call s m from
   none-narrow e = none_by (λ _. let z : s.height * s.width ≡ 0 = ap (λ (w : ℕ). s.height * w) e ∙ mul-zero s.height in omega arith)
 
   module _ (wide : s.width ≡ 0 → ⊥) where
     some-wide : 0 < s.width
     some-wide = omega arith
 
-    pub none-short : length m / s.width < s.height → outcome_of none m ≡ claim_call s m from
+    pub none-short : length m / s.width < s.height → outcome_of None m ≡ claim_call s m from
     none-short h = none_by (λ l. let k = (le-div_iff_mul-le {x = s.height} {y = length m} some-wide).1 l in absurd (omega arith))
 
     module _ (high : s.height ≤ length m / s.width) where
@@ -148,35 +148,18 @@ module _ (s : Slice) (m : List ℕ) (from : ℕ) where
       slots_fit = (le-div_iff_mul-le some-wide).0 high
 
       module _ {q : ℕ} (seen : NextSeen m from (s.height * s.width) q) where
-        pub none_left : s.height * s.width ≤ q → outcome_of none m ≡ claim_call s m from
+        pub none_left : s.height * s.width ≤ q → outcome_of None m ≡ claim_call s m from
         none_left h = none_by (λ _. rw (sym (first-seen seen)) h)
 
         module _ (inside : q < s.height * s.width) where
-          pub claim_asks : ClaimPre m s.width s.height (q % s.width) (q / s.width) q (get_or m q 0)
-          claim_asks =
-              record {
-                whole = slots_fit;
-                first = mod-lt q some-wide;
-                second = (div-lt_iff_lt-mul some-wide).1 inside;
-                here = sym (div-add-mod' q s.width);
-                holds = refl;
-                seen = seen.seen inside;
-              }
-
           claim_by : claim_from s m q ≡ claim_call s m from
           claim_by = let e = first-seen seen in ap (claim_from s m) e ∙ call-some slots_fit (omega arith)
 
-          pub claim_gives : {m' : List ℕ} {c : Claim} {p : Quad} → ClaimPost m m' s.width s.height (q % s.width) (q / s.width) c
-              → p ≡ quad_in s (rect_of (q % s.width) (q / s.width) c.run c.rows (get_or m q 0))
-              → outcome_of (some (record { quad = p; next = q + 1 })) m' ≡ claim_call s m from
-          unfolding claim_from rect_from rect_at
-          claim_gives {m'} {c} {p} k e =
-              let w = s.width in
-              let h = s.height in
-              let x : get_or m q 0 ≡ slot w m (q % w) (q / w) = ap (λ (i : ℕ). get_or m i 0) (sym (div-add-mod' q w)) in
-              let r : rect_of (q % w) (q / w) c.run c.rows (get_or m q 0) ≡ rect_at w h m (q % w) (q / w) =
-              λ i. record { u = q % w; v = q / w; run = k.run i; rows = k.rows i; value = x i } in
-              (λ i. outcome_of (some (record { quad = (e ∙ ap (quad_in s) r) i; next = q + 1 })) (k.mask i)) ∙ claim_by
+          pub claim_gives : {m' : List ℕ} {r : Rect} {p : Quad} → ClaimPost m m' s.width s.height (q % s.width) (q / s.width) r → p ≡ quad_in s r
+              → outcome_of (Some (record { quad = p; next = q + 1 })) m' ≡ claim_call s m from
+          unfolding claim_from rect_from
+          claim_gives {m'} {r} k e =
+              (λ i. outcome_of (Some (record { quad = (e ∙ ap (quad_in s) k.rect) i; next = q + 1 })) ((k.mask ∙ ap (clear_of s.width m) k.rect) i)) ∙ claim_by
 
 -- ---- the scan by places
 
@@ -344,7 +327,7 @@ module _ (s : Slice) (m : List ℕ) (fits : s.height * s.width ≤ length m) whe
       λ i. record { mask = (d.mask ∙ ap (λ (t : State). t.mask) e) i; quads = (d.quads ∙ ap (λ (t : State). map (quad_in s) t.rects) e) i }
 
   -- none is left then
-  pub claims_over : (from : ℕ) → outcome_of none (scan s.width s.height m).mask ≡ claim_call s (scan s.width s.height m).mask from
+  pub claims_over : (from : ℕ) → outcome_of None (scan s.width s.height m).mask ≡ claim_call s (scan s.width s.height m).mask from
   unfolding first_seen
   claims_over from =
       let m' = (scan s.width s.height m).mask in

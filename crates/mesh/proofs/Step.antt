@@ -2,7 +2,7 @@
 use mathlib.Core.Path.{◌≡◌, refl, sym, ap, ◌∙◌, subst}
 use mathlib.Core.Bool.{Bool, true, false, cond, and-false}
 use mathlib.Core.Logic.{inl, inr}
-use Prim.Native.Nat.{ℕ, zero, suc, ◌+◌, ◌-◌, ◌*◌, ◌%◌, ◌≤◌, ◌<◌, min}
+use Prim.Native.Nat.{ℕ, zero, suc, ◌+◌, ◌-◌, ◌*◌, ◌/◌, ◌%◌, ◌≤◌, ◌<◌}
 use native.Mathlib.Nat.{add-mul, add-zero, le-mul_of_pos_right, mul_comm, one-mul}
 use native.Mathlib.Omega.{arith}
 use borrow.Author.Tests.{eq-eqb, le-ltb, leb-true, ne_eqb}
@@ -15,19 +15,24 @@ use Rattle.arith.proofs.Signed.{level_bound, sub_ge}
 use Rattle.arith.specs.Level.{level_of, number_of}
 use Rattle.arith.specs.Saturate.{saturate}
 use Rattle.stand.specs.Cells.{cell_of, moved}
-use Rattle.stand.specs.Shape.{Ranged, Shape, cell_from, chunk_place, chunks_in, chunks_on, corner, counted, counts_of, inside, inside_on, last_fits, levels_of, max_chunks, opens, point_of, product, section_at, sections, shape_of, slot, well_formed, within_at}
+use Rattle.stand.specs.Shape.{Below, Ranged, Shape, cell_from, chunk_place, chunks_in, chunks_on, corner, counted, counts_of, inside, inside_on, last_fits, levels_of, max_chunks, opens, point_of, product, section_at, sections, shape_of, slot, well_formed, within_at}
 use Rattle.stand.specs.Sides.{first_at, normal_at, second_at, step_at, step_on, way_at}
 use Rattle.stand.specs.declared.Cell.{Cell}
 use Rattle.stand.specs.declared.volume.Volume.{Volume}
+use Rattle.stand.specs.declared.volume.formed.Formed.{Formed}
 use Rattle.stand.specs.declared.volume.shape.Point.{Point}
+use Rattle.stand.proofs.Formed.{corner-x, corner-y, corner-z}
 use Rattle.stand.proofs.Levels.{from_law, last_law}
-use Rattle.stand.proofs.Shape.{Within, formed-counts, goods, inside-from, sections-few, slot-from, slot_lt}
+use Rattle.stand.proofs.Shape.{Within, formed-counts, formed-opens, goods, inside-from, sections-few, slot-from, slot_lt}
 use Rattle.stand.proofs.Slots.{section-place}
-use Rattle.mesh.specs.Part.{added, cell_in, depth_of, facing, height_of, on_axis, section_part, turned, width_of}
-use Rattle.mesh.specs.Step.{EachSlot, Follows, SectionIs, SliceOf, hop_on, onward}
+use Rattle.mesh.specs.Part.{SectionLies, added, cell_in, cut_at, depth_of, facing, height_of, on_axis, section_part, turned, width_of}
+use Rattle.mesh.specs.Scene.{open_in, shape_in}
+use Rattle.mesh.specs.Step.{EachSlot, Follows, hop_on, next_outside, onward, part_in}
 use Rattle.mesh.specs.Visible.{ahead}
+use Rattle.mesh.specs.declared.part.Next.{Next}
 use Rattle.mesh.specs.declared.part.Next.TheVariants as N
-use Rattle.mesh.specs.declared.part.Section.{Section}
+use Rattle.mesh.specs.declared.scene.Scene.{Scene}
+use Rattle.mesh.specs.declared.scene.Section.{Section}
 use Rattle.mesh.proofs.Parts.{Cut, Extents, arranged, cell-within, facing_sixteen, facing_of, place_in, points, scaled, section_extents, section_in, section-inside, section-on, section-slot, slot_in}
 
 -- ---- along one axis, n cells from o on
@@ -238,7 +243,25 @@ counted-on g (suc (suc a)) = refl
 
 -- ---- a slice of a section, and what follows it
 
-module _ (g : Shape) (c : Section) (i s k : ℕ) (q : SliceOf g c i s k) where
+pub chunks_few : (h : Formed) → sections (shape_of h.volume) ≤ max_chunks
+chunks_few h = sections-few (shape_of h.volume) (formed-opens h.volume h.formed)
+
+pub opened : (s : Scene) → opens (shape_in s) ≡ true
+opened s = formed-opens s.stand.header.volume s.stand.header.formed
+
+module _ (c : Section) (s k : ℕ) (hs : s < 6) (hk : k < depth_of (part_in c) s) where
+  abbrev g : Shape
+  g = shape_in c.scene
+
+  abbrev i : ℕ
+  i = c.chunk
+
+  o : opens g ≡ true
+  o = opened c.scene
+
+  ranged : Ranged g.origin
+  ranged = c.lies.ranged
+
   -- along the normal: the stand's cells and its first level, the section's place, and its cells
   abbrev size : ℕ
   size = on_axis (normal_at s) g.size
@@ -251,7 +274,7 @@ module _ (g : Shape) (c : Section) (i s k : ℕ) (q : SliceOf g c i s k) where
 
   pub cut-normal : Cut size at (depth_of (section_part g i) s)
   unfolding depth_of
-  cut-normal = section-on g i q.chunk (normal_at s)
+  cut-normal = section-on g i c.lies.chunk (normal_at s)
 
   low-normal : on_axis (normal_at s) (section_part g i).low ≡ at * 16
   unfolding section_part corner
@@ -259,44 +282,44 @@ module _ (g : Shape) (c : Section) (i s k : ℕ) (q : SliceOf g c i s k) where
 
   -- bounds of the code's sums
   pub few : sections g ≤ max_chunks
-  few = sections-few g q.opened
+  few = sections-few g o
 
   pub level_lt : level_of start + at * 16 + k < 4294967296
-  level_lt = omega (arith, cut-normal.fits, q.slice, room-on g q.opened q.ranged (normal_at s))
+  level_lt = omega (arith, cut-normal.fits, hk, room-on g o ranged (normal_at s))
 
   -- what the code reads
   module _ {a d : ℕ} (e : a ≡ normal_at s) where
     pub depth_is : d ≡ on_axis a c.count → d ≡ depth_of (section_part g i) s
     unfolding depth_of
-    depth_is p = p ∙ (λ j. on_axis (e j) (q.section.count j))
+    depth_is p = p ∙ (λ j. on_axis (e j) (c.lies.count j))
 
     pub place_is : d ≡ on_axis a c.place → d ≡ at
-    place_is p = p ∙ (λ j. on_axis (e j) (q.section.place j))
+    place_is p = p ∙ (λ j. on_axis (e j) (c.lies.place j))
 
     pub chunks-is : d ≡ on_axis a c.chunks → d ≡ chunks_on size
-    chunks-is p = p ∙ (λ j. on_axis (e j) (q.section.chunks j)) ∙ counted-on g (normal_at s)
+    chunks-is p = p ∙ (λ j. on_axis (e j) (c.lies.chunks j)) ∙ counted-on g (normal_at s)
 
     pub low-is : d ≡ on_axis a c.low → d ≡ level_of start + at * 16
     low-is p =
-        p ∙ (λ j. on_axis (e j) (q.section.low j)) ∙ added-on (normal_at s) _ _
+        p ∙ (λ j. on_axis (e j) (c.lies.low j)) ∙ added-on (normal_at s) _ _
         ∙ (λ j. level_on g.origin (normal_at s) j + low-normal j)
 
     pub hop_is : d ≡ hop_on c.chunks a → d ≡ hop_on (counted g) (normal_at s)
-    hop_is p = p ∙ (λ j. hop_on (q.section.chunks j) (e j))
+    hop_is p = p ∙ (λ j. hop_on (c.lies.chunks j) (e j))
 
   pub plane_few : c.chunks.x * c.chunks.y < 4294967296
   unfolding sections product
   plane_few =
-      let e : c.chunks.x * c.chunks.y ≡ (counted g).x * (counted g).y = (λ j. (q.section.chunks j).x * (q.section.chunks j).y) in
-      let z = (place_in (counted g) i q.chunk).z in
-      omega (arith, sections-few g q.opened, le-mul_of_pos_right {m = (counted g).z} ((counted g).x * (counted g).y) (omega arith))
+      let e : c.chunks.x * c.chunks.y ≡ (counted g).x * (counted g).y = (λ j. (c.lies.chunks j).x * (c.lies.chunks j).y) in
+      let z = (place_in (counted g) i c.lies.chunk).z in
+      omega (arith, sections-few g o, le-mul_of_pos_right {m = (counted g).z} ((counted g).x * (counted g).y) (omega arith))
 
   pub extents : Extents (section_part g i) s
-  extents = section_extents g i q.chunk s
+  extents = section_extents g i c.lies.chunk s
 
   module _ (u v : ℕ) (hu : u < width_of (section_part g i) s) (hv : v < height_of (section_part g i) s) where
     within : Within g.size (added (section_part g i).low (facing s k u v))
-    within = cell-within g (section_part g i) s k u v (section_in g i q.chunk) q.side q.slice hu hv
+    within = cell-within g (section_part g i) s k u v (section_in g i c.lies.chunk) hs hk hu hv
 
     pub narrow : (u < 16) × (v < 16)
     narrow = (omega (arith, extents.width), omega (arith, extents.height))
@@ -304,172 +327,179 @@ module _ (g : Shape) (c : Section) (i s k : ℕ) (q : SliceOf g c i s k) where
     to_slice : (m : ℕ) → stepped g (section_part g i).low s k ≡ spot g (section_part g i).low s m
         → ahead s (cell_in g (section_part g i) s k u v) ≡ cell_in g (section_part g i) s m u v
     unfolding cell_in
-    to_slice m = ahead-at g q.opened q.ranged (section_part g i).low s k u v q.side within m
+    to_slice m = ahead-at g o ranged (section_part g i).low s k u v hs within m
 
-  module _ (beyond : Bool) where
-    follows_at : (j t : ℕ) → t < 16
-        → EachSlot g i s (λ u v. (inside g (onward g i s k u v) ≡ true) × (slot g (onward g i s k u v) ≡ j * 4096 + within_at (facing s t u v)))
-        → Follows g beyond i s k (N.At j t)
-    follows_at j t h f =
-        let p = f 0 0 extents.wide extents.high in
-        (omega (arith, slot_lt g (onward g i s k 0 0) q.opened p.0, p.1), h, f)
+  follows_at : (j t : ℕ) → t < 16
+      → EachSlot c s (λ u v. (inside g (onward c s k u v) ≡ true) × (slot g (onward c s k u v) ≡ j * 4096 + within_at (facing s t u v)))
+      → Follows c s k (N.At j t)
+  follows_at j t h f =
+      let p = f 0 0 extents.wide extents.high in
+      (omega (arith, slot_lt g (onward c s k 0 0) o p.0, p.1), h, f)
 
-    in_section : (m : ℕ) → m < depth_of (section_part g i) s
-        → stepped g (section_part g i).low s k ≡ spot g (section_part g i).low s m
-        → Follows g beyond i s k (N.At i m)
-    in_section m h e =
-        follows_at i m (omega (arith, cut-normal.most)) (λ u v hu hv.
-        let p = to_slice u v hu hv m e in
-        (ap (inside g) p ∙ section-inside g i s m u v q.chunk q.side h hu hv, ap (slot g) p ∙ section-slot g i s m u v q.chunk q.side h hu hv))
+  in_section : (m : ℕ) → m < depth_of (section_part g i) s
+      → stepped g (section_part g i).low s k ≡ spot g (section_part g i).low s m
+      → Follows c s k (N.At i m)
+  in_section m h e =
+      follows_at i m (omega (arith, cut-normal.most)) (λ u v hu hv.
+      let p = to_slice u v hu hv m e in
+      (ap (inside g) p ∙ section-inside g i s m u v c.lies.chunk hs h hu hv, ap (slot g) p ∙ section-slot g i s m u v c.lies.chunk hs h hu hv))
 
-    -- a cell that lies in another section at place p, slice t
-    in_other : (p : Point) (j t : ℕ) → t < 16 → section_at (counted g) p ≡ j
-        → EachSlot g i s (λ u v. (onward g i s k u v ≡ cell_from g (added (scaled p) (facing s t u v))) × Within g.size (added (scaled p) (facing s t u v)))
-        → Follows g beyond i s k (N.At j t)
-    in_other p j t h e f =
-        follows_at j t h (λ u v hu hv.
-        let w = f u v hu hv in
-        let n = narrow u v hu hv in (
-          ap (inside g) w.0 ∙ inside-from g _ w.1,
-          ap (slot g) w.0 ∙ slot-from g _ ∙ slot_in (counted g) p (facing s t u v) (facing_sixteen s t u v q.side h n.0 n.1)
-              ∙ ap (λ (m : ℕ). m * 4096 + within_at (facing s t u v)) e,
-        ))
+  -- a cell that lies in another section at place p, slice t
+  in_other : (p : Point) (j t : ℕ) → t < 16 → section_at (counted g) p ≡ j
+      → EachSlot c s (λ u v. (onward c s k u v ≡ cell_from g (added (scaled p) (facing s t u v))) × Within g.size (added (scaled p) (facing s t u v)))
+      → Follows c s k (N.At j t)
+  in_other p j t h e f =
+      follows_at j t h (λ u v hu hv.
+      let w = f u v hu hv in
+      let n = narrow u v hu hv in (
+        ap (inside g) w.0 ∙ inside-from g _ w.1,
+        ap (slot g) w.0 ∙ slot-from g _ ∙ slot_in (counted g) p (facing s t u v) (facing_sixteen s t u v hs h n.0 n.1)
+            ∙ ap (λ (m : ℕ). m * 4096 + within_at (facing s t u v)) e,
+      ))
 
-    -- the step ends at the cell itself
-    at-end : stepped g (section_part g i).low s k ≡ spot g (section_part g i).low s k
-        → Follows g beyond i s k N.Shut
-    at-end e u v hu hv = inr (to_slice u v hu hv k e)
+  -- the step ends at the cell itself
+  at-end : stepped g (section_part g i).low s k ≡ spot g (section_part g i).low s k
+      → Follows c s k N.Shut
+  at-end e u v hu hv = inr (to_slice u v hu hv k e)
 
-    -- the step leaves the stand
-    module _ (e : inside_on start size (stepped g (section_part g i).low s k) ≡ false) where
-      off : (u v : ℕ) → inside g (onward g i s k u v) ≡ false
-      unfolding cell_in
-      off u v = outside_at g q.opened q.ranged (section_part g i).low s k u v q.side e
+  -- the step leaves the stand
+  module _ (e : inside_on start size (stepped g (section_part g i).low s k) ≡ false) where
+    off : (u v : ℕ) → inside g (onward c s k u v) ≡ false
+    unfolding cell_in
+    off u v = outside_at g o ranged (section_part g i).low s k u v hs e
 
-      is_open : beyond ≡ true → Follows g beyond i s k N.Open
-      is_open b u v hu hv = (off u v, b)
+    leaves : {n : Next} → n ≡ next_outside (open_in c.scene) → Follows c s k n
+    leaves e = rw e (by (open_in c.scene) refl)
+      where
+        by : (b : Bool) → open_in c.scene ≡ b → Follows c s k (next_outside b)
+        by true b = λ u v hu hv. (off u v, b)
+        by false b = λ u v hu hv. inl (off u v, b)
 
-      is_shut : beyond ≡ false → Follows g beyond i s k N.Shut
-      is_shut b u v hu hv = inl (off u v, b)
+  fits : SFits w32 start
+  fits = fits_on g.origin ranged (normal_at s)
 
-    fits : SFits w32 start
-    fits = fits_on g.origin q.ranged (normal_at s)
+  room : level_of start + size ≤ 4294967296
+  room = room-on g o ranged (normal_at s)
 
-    room : level_of start + size ≤ 4294967296
-    room = room-on g q.opened q.ranged (normal_at s)
+  -- ---- up
 
-    -- ---- up
+  module _ (even : s % 2 ≡ 0) where
+    rises : at * 16 + k + 1 < size → stepped g (section_part g i).low s k ≡ spot g (section_part g i).low s (k + 1)
+    rises h = up_from g o ranged (section_part g i).low s k even (omega (arith, low-normal, room))
 
-    module _ (even : s % 2 ≡ 0) where
-      rises : at * 16 + k + 1 < size → stepped g (section_part g i).low s k ≡ spot g (section_part g i).low s (k + 1)
-      rises h = up_from g q.opened q.ranged (section_part g i).low s k even (omega (arith, low-normal, room))
+    pub up_in : k + 1 < depth_of (section_part g i) s → Follows c s k (N.At i (k + 1))
+    up_in h = in_section (k + 1) h (rises (omega (arith, cut-normal.fits)))
 
-      pub up_in : k + 1 < depth_of (section_part g i) s → Follows g beyond i s k (N.At i (k + 1))
-      up_in h = in_section (k + 1) h (rises (omega (arith, cut-normal.fits)))
+    module _ (top : depth_of (section_part g i) s ≤ k + 1) where
+      pub up_hop : {d : ℕ} → d ≡ hop_on (counted g) (normal_at s) → at + 1 < chunks_on size → Follows c s k (N.At (i + d) 0)
+      unfolding chunks_on cell_in section_part corner
+      up_hop {d} e h =
+          let n : at * 16 + 16 < size = omega arith in
+          let m : k + 1 ≡ 16 = omega (arith, cut-normal.is, cut-normal.most, hk) in
+          in_other (further s (chunk_place (counted g) i)) (i + d) 0 (omega arith)
+          (hop_law s hs (chunk_place (counted g) i) (counted g) ∙ (λ j. section-place (counted g) i j + sym e j))
+          (λ u v hu hv.
+          let p = carry s hs (chunk_place (counted g) i) 0 u v in
+          let t = to_slice u v hu hv 16 (rises (omega arith) ∙ ap (λ (j : ℕ). spot g (section_part g i).low s j) m) in
+          let w = within-at g o ranged (section_part g i).low s k u v hs (within u v hu hv) 16 (omega (arith, low-normal)) in
+          (t ∙ ap (cell_from g) (sym p), subst (Within g.size) (sym p) w))
 
-      module _ (top : depth_of (section_part g i) s ≤ k + 1) where
-        pub up_hop : {d : ℕ} → d ≡ hop_on (counted g) (normal_at s) → at + 1 < chunks_on size → Follows g beyond i s k (N.At (i + d) 0)
-        unfolding chunks_on cell_in section_part corner
-        up_hop {d} e h =
-            let n : at * 16 + 16 < size = omega arith in
-            let m : k + 1 ≡ 16 = omega (arith, cut-normal.is, cut-normal.most, q.slice) in
-            in_other (further s (chunk_place (counted g) i)) (i + d) 0 (omega arith)
-            (hop_law s q.side (chunk_place (counted g) i) (counted g) ∙ (λ j. section-place (counted g) i j + sym e j))
+      pub up_shut : level_of start + at * 16 + k ≡ 4294967295 → Follows c s k N.Shut
+      up_shut h =
+          at-end (rw (way_up s even) (up_end start fits (on_axis (normal_at s) (section_part g i).low + k) (omega (arith, low-normal))))
+
+      module _ (last : chunks_on size ≤ at + 1) (inner : level_of start + at * 16 + k ≡ 4294967295 → ⊥) where
+        up_off : inside_on start size (stepped g (section_part g i).low s k) ≡ false
+        unfolding chunks_on
+        up_off =
+            let n : size ≤ at * 16 + k + 1 = omega (arith, cut-normal.is) in
+            let l : level_of start + (at * 16 + k) < 4294967295 = omega (arith, room, cut-normal.fits, hk) in
+            rw (way_up s even) (up_out start fits size (on_axis (normal_at s) (section_part g i).low + k) (omega (arith, low-normal)) (omega (arith, low-normal)))
+
+        pub up_leaves : {n : Next} → n ≡ next_outside (open_in c.scene) → Follows c s k n
+        up_leaves = leaves up_off
+
+  -- ---- down
+
+  module _ (odd : s % 2 ≡ 1) where
+    pub down_in : 0 < k → Follows c s k (N.At i (k - 1))
+    down_in h =
+        let e : k - 1 + 1 ≡ k = omega arith in
+        in_section (k - 1) (omega (arith, hk))
+        (ap (λ (j : ℕ). stepped g (section_part g i).low s j) (sym e)
+        ∙ down_from g o ranged (section_part g i).low s (k - 1) odd (omega (arith, low-normal, room, cut-normal.fits, hk)))
+
+    module _ (foot : k ≡ 0) where
+      back : Point
+      back = behind s hs (chunk_place (counted g) i)
+
+      module _ (h : 0 < at) where
+        back_further : further s back ≡ chunk_place (counted g) i
+        unfolding back
+        back_further = behind_further s hs (chunk_place (counted g) i) h
+
+        back-section : section_at (counted g) back + hop_on (counted g) (normal_at s) ≡ i
+        back-section = sym (hop_law s hs back (counted g)) ∙ ap (section_at (counted g)) back_further ∙ section-place (counted g) i
+
+        pub hop_le : {d : ℕ} → d ≡ hop_on (counted g) (normal_at s) → d ≤ i
+        hop_le e = omega (arith, back-section)
+
+        from_back : (u v : ℕ) → added (section_part g i).low (facing s k u v) ≡ added (scaled back) (facing s 16 u v)
+        unfolding section_part corner
+        from_back u v = (λ j. added (scaled (sym back_further j)) (facing s (foot j) u v)) ∙ carry s hs back 0 u v
+
+        at_back : (u v : ℕ) → onward c s k u v ≡ ahead s (cell_from g (added (scaled back) (facing s 16 u v)))
+        unfolding cell_in
+        at_back u v = ap (λ (d : Point). ahead s (cell_from g d)) (from_back u v)
+
+        pub down_hop : {d : ℕ} → d ≡ hop_on (counted g) (normal_at s) → Follows c s k (N.At (i - d) 15)
+        down_hop {d} e =
+            in_other back (i - d) 15 (omega arith) (omega (arith, back-section))
             (λ u v hu hv.
-            let p = carry s q.side (chunk_place (counted g) i) 0 u v in
-            let t = to_slice u v hu hv 16 (rises (omega arith) ∙ ap (λ (j : ℕ). spot g (section_part g i).low s j) m) in
-            let w = within-at g q.opened q.ranged (section_part g i).low s k u v q.side (within u v hu hv) 16 (omega (arith, low-normal)) in
-            (t ∙ ap (cell_from g) (sym p), subst (Within g.size) (sym p) w))
+            let w : Within g.size (added (scaled back) (facing s 16 u v)) = subst (Within g.size) (from_back u v) (within u v hu hv) in
+            let n : on_axis (normal_at s) (scaled back) + 16 < size = within-normal g o ranged (scaled back) s 16 u v hs w in (
+              at_back u v
+                  ∙ ahead-at g o ranged (scaled back) s 16 u v hs w 15 (down_from g o ranged (scaled back) s 15 odd (omega (arith, room))),
+              within-at g o ranged (scaled back) s 16 u v hs w 15 (omega arith),
+            ))
 
-        pub up_shut : level_of start + at * 16 + k ≡ 4294967295 → Follows g beyond i s k N.Shut
-        up_shut h =
-            at-end (rw (way_up s even) (up_end start fits (on_axis (normal_at s) (section_part g i).low + k) (omega (arith, low-normal))))
+      module _ (first : at ≡ 0) where
+        pub down_shut : level_of start + at * 16 ≡ 0 → Follows c s k N.Shut
+        down_shut h =
+            at-end (rw (way_down s odd) (down_end start fits (on_axis (normal_at s) (section_part g i).low + k) (omega (arith, low-normal))))
 
-        module _ (last : chunks_on size ≤ at + 1) (inner : level_of start + at * 16 + k ≡ 4294967295 → ⊥) where
-          up_off : inside_on start size (stepped g (section_part g i).low s k) ≡ false
-          unfolding chunks_on
-          up_off =
-              let n : size ≤ at * 16 + k + 1 = omega (arith, cut-normal.is) in
-              let l : level_of start + (at * 16 + k) < 4294967295 = omega (arith, room, cut-normal.fits, q.slice) in
-              rw (way_up s even) (up_out start fits size (on_axis (normal_at s) (section_part g i).low + k) (omega (arith, low-normal)) (omega (arith, low-normal)))
+        module _ (inner : level_of start + at * 16 ≡ 0 → ⊥) where
+          down_off : inside_on start size (stepped g (section_part g i).low s k) ≡ false
+          down_off = rw (way_down s odd) (down_out start fits size (on_axis (normal_at s) (section_part g i).low + k) (omega (arith, low-normal)) (omega arith))
 
-          pub up_open : beyond ≡ true → Follows g beyond i s k N.Open
-          up_open = is_open up_off
-
-          pub up_closed : beyond ≡ false → Follows g beyond i s k N.Shut
-          up_closed = is_shut up_off
-
-    -- ---- down
-
-    module _ (odd : s % 2 ≡ 1) where
-      pub down_in : 0 < k → Follows g beyond i s k (N.At i (k - 1))
-      down_in h =
-          let e : k - 1 + 1 ≡ k = omega arith in
-          in_section (k - 1) (omega (arith, q.slice))
-          (ap (λ (j : ℕ). stepped g (section_part g i).low s j) (sym e)
-          ∙ down_from g q.opened q.ranged (section_part g i).low s (k - 1) odd (omega (arith, low-normal, room, cut-normal.fits, q.slice)))
-
-      module _ (foot : k ≡ 0) where
-        back : Point
-        back = behind s q.side (chunk_place (counted g) i)
-
-        module _ (h : 0 < at) where
-          back_further : further s back ≡ chunk_place (counted g) i
-          unfolding back
-          back_further = behind_further s q.side (chunk_place (counted g) i) h
-
-          back-section : section_at (counted g) back + hop_on (counted g) (normal_at s) ≡ i
-          back-section = sym (hop_law s q.side back (counted g)) ∙ ap (section_at (counted g)) back_further ∙ section-place (counted g) i
-
-          pub hop_le : {d : ℕ} → d ≡ hop_on (counted g) (normal_at s) → d ≤ i
-          hop_le e = omega (arith, back-section)
-
-          from_back : (u v : ℕ) → added (section_part g i).low (facing s k u v) ≡ added (scaled back) (facing s 16 u v)
-          unfolding section_part corner
-          from_back u v = (λ j. added (scaled (sym back_further j)) (facing s (foot j) u v)) ∙ carry s q.side back 0 u v
-
-          at_back : (u v : ℕ) → onward g i s k u v ≡ ahead s (cell_from g (added (scaled back) (facing s 16 u v)))
-          unfolding cell_in
-          at_back u v = ap (λ (d : Point). ahead s (cell_from g d)) (from_back u v)
-
-          pub down_hop : {d : ℕ} → d ≡ hop_on (counted g) (normal_at s) → Follows g beyond i s k (N.At (i - d) 15)
-          down_hop {d} e =
-              in_other back (i - d) 15 (omega arith) (omega (arith, back-section))
-              (λ u v hu hv.
-              let w : Within g.size (added (scaled back) (facing s 16 u v)) = subst (Within g.size) (from_back u v) (within u v hu hv) in
-              let n : on_axis (normal_at s) (scaled back) + 16 < size = within-normal g q.opened q.ranged (scaled back) s 16 u v q.side w in (
-                at_back u v
-                    ∙ ahead-at g q.opened q.ranged (scaled back) s 16 u v q.side w 15 (down_from g q.opened q.ranged (scaled back) s 15 odd (omega (arith, room))),
-                within-at g q.opened q.ranged (scaled back) s 16 u v q.side w 15 (omega arith),
-              ))
-
-        module _ (first : at ≡ 0) where
-          pub down_shut : level_of start + at * 16 ≡ 0 → Follows g beyond i s k N.Shut
-          down_shut h =
-              at-end (rw (way_down s odd) (down_end start fits (on_axis (normal_at s) (section_part g i).low + k) (omega (arith, low-normal))))
-
-          module _ (inner : level_of start + at * 16 ≡ 0 → ⊥) where
-            down_off : inside_on start size (stepped g (section_part g i).low s k) ≡ false
-            down_off = rw (way_down s odd) (down_out start fits size (on_axis (normal_at s) (section_part g i).low + k) (omega (arith, low-normal)) (omega arith))
-
-            pub down_open : beyond ≡ true → Follows g beyond i s k N.Open
-            down_open = is_open down_off
-
-            pub down_closed : beyond ≡ false → Follows g beyond i s k N.Shut
-            down_closed = is_shut down_off
+          pub down_leaves : {n : Next} → n ≡ next_outside (open_in c.scene) → Follows c s k n
+          down_leaves = leaves down_off
 
 -- ---- where a section lies, by the code's numbers
 
-pub section-is : (v : Volume) (i : ℕ) {o n k p : Point} {a b d : ℕ} → well_formed v ≡ true → o ≡ levels_of v.origin → n ≡ counts_of v.size → k ≡ counts_of v.chunks → p ≡ chunk_place k i
-    → a ≡ min 16 (n.x - p.x * 16) → b ≡ min 16 (n.y - p.y * 16) → d ≡ min 16 (n.z - p.z * 16)
-    → SectionIs (shape_of v) i (record { low = point_of (o.x + p.x * 16) (o.y + p.y * 16) (o.z + p.z * 16); count = point_of a b d; place = p; chunks = k })
+pub section_lies : (v : Volume) (i : ℕ) {o d n k : Point} → well_formed v ≡ true → Ranged v.origin → i < sections (shape_of v)
+    → o ≡ levels_of v.origin → d ≡ corner (counts_of v.chunks) i → n ≡ cut_at (shape_of v) d → k ≡ counts_of v.chunks
+    → SectionLies (shape_of v) i (point_of (o.x + d.x) (o.y + d.y) (o.z + d.z)) n (point_of (d.x / 16) (d.y / 16) (d.z / 16)) k
 unfolding shape_of section_part corner added
-section-is v i {p = p} ok eo en ek ep ea eb ed =
-    let c = ek ∙ formed-counts v ok in
-    let q : p ≡ chunk_place (counted (shape_of v)) i = ep ∙ ap (λ (m : Point). chunk_place m i) c in
+section_lies v i {d = d} ok r h eo ed en ek =
+    let c = formed-counts v ok in
+    let e : d ≡ scaled (chunk_place (counted (shape_of v)) i) = ed ∙ ap (λ (k : Point). scaled (chunk_place k i)) c in
     record {
-      chunks = c;
-      place = q;
-      low = λ j. point_of ((eo j).x + (q j).x * 16) ((eo j).y + (q j).y * 16) ((eo j).z + (q j).z * 16);
-      count = points (ea ∙ (λ j. min 16 ((en j).x - (q j).x * 16))) (eb ∙ (λ j. min 16 ((en j).y - (q j).y * 16))) (ed ∙ (λ j. min 16 ((en j).z - (q j).z * 16)));
+      ranged = r;
+      chunk = h;
+      chunks = ek ∙ c;
+      place = ap (λ (d : Point). point_of (d.x / 16) (d.y / 16) (d.z / 16)) e ∙ points (omega arith) (omega arith) (omega arith);
+      low = λ j. point_of ((eo j).x + (e j).x) ((eo j).y + (e j).y) ((eo j).z + (e j).z);
+      count = en ∙ ap (cut_at (shape_of v)) e;
     }
+
+-- its corner is no further than its number, so that the sums of its levels fit
+pub section_room : (k : Point) (i : ℕ) {d : Point} → d ≡ corner k i → Below (i * 16 + 1) d
+unfolding corner chunk_place
+section_room k i e =
+    rw e
+    (record {
+      x = let h = corner-x k i in omega arith;
+      y = let h = corner-y k i in omega arith;
+      z = let h = corner-z k i in omega arith;
+    })

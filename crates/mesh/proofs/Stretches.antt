@@ -1,20 +1,20 @@
 -- Laws of stretches: a slot more, a mask in which more is 0, what is seen from a slot on; and a row walked by them.
 use mathlib.Core.Path.{◌≡◌, sym, subst, ◌∙◌}
 use mathlib.Core.List.{List}
-use mathlib.Core.Logic.{⊎_elim}
+use mathlib.Core.Logic.{◌⊎◌, ⊎_elim}
 use Prim.Native.Nat.{ℕ, suc, ◌+◌, ◌-◌, ◌*◌, ◌≤◌, ◌<◌}
 use native.Mathlib.Nat.{eq-or-lt_of_le}
 use native.Mathlib.Omega.{arith}
 use lib.IntN.{ℤ}
-use lib.ListN.{get_or, length, set}
+use lib.ListN.{get_or, length, length-set, set}
 use lib.Seq.{get_or-set_same, get_or-set_other}
 use Rattle.mesh.specs.Claims.{Blank}
 use Rattle.mesh.specs.Frame.{StepPost, Wrote}
 use Rattle.mesh.specs.Scan.{fresh, row_to}
-use Rattle.mesh.specs.Stretch.{SeenFrom, SeenList}
+use Rattle.mesh.specs.Stretch.{SeenFrom, SeenList, StretchIn}
 use Rattle.mesh.specs.declared.scan.Frame.{Frame}
 use Rattle.mesh.specs.declared.scan.Turn.{Turn}
-use Rattle.mesh.proofs.Claims.{blank-kept, blank-start, blank-wide}
+use Rattle.mesh.proofs.Claims.{blank-front, blank-kept, blank-start, blank-wide}
 use Rattle.mesh.proofs.Frame.{row_on, row_step}
 use Rattle.mesh.proofs.Laid.{lt_or_le}
 use Rattle.mesh.proofs.Scanned.{step_keeps}
@@ -37,6 +37,32 @@ seen_more {m} {row} seen {from} {u} {n} {to} s low near room b l =
   where
     At : ℕ → ℕ → Type 0
     At i k = Blank m (row + i) (row + to) (row + k)
+
+-- a stretch listed from slot u on; `near` is the first that is not 0 from there, or the stretch's end
+pub record Listing (m : List ℕ) (row from u to near : ℕ) (seen : List ℕ) : Type 0 where
+  pub low : from ≤ u
+  pub next : Blank m (row + u) (row + to) (row + near)
+  pub sixteen : length seen ≡ 16
+  pub list : SeenList m row from u to seen
+
+pub listing_start : {len : ℕ} (m : List ℕ) {row from to : ℕ} {seen : List ℕ} → StretchIn len row from to → length seen ≡ 16 → Listing m row from to to to seen
+listing_start m {row} {from} {to} {seen} p l = record { low = p.low; next = blank-start (omega arith); sixteen = l; list = seen_none m row from to seen }
+
+pub listing_more : {len : ℕ} {m : List ℕ} {row from n to near near' : ℕ} {seen : List ℕ} → StretchIn len row from to → Listing m row from n to near seen → from < n
+    → ((near' ≡ near) × (get_or m (row + (n - 1)) 0 ≡ 0)) ⊎ (near' ≡ n - 1) → Listing m row from (n - 1) to near' (set seen (n - 1 - from) near')
+listing_more {m = m} {row} {from} {n} {to} {near} {near'} {seen} p a t b =
+    let low : from ≤ n - 1 = omega arith in
+    let high : n ≤ to = omega (arith, a.next.low, a.next.high) in
+    let on : Blank m (row + (n - 1)) (row + to) (row + near') =
+    ⊎_elim
+    (λ z. rw z.0 (blank-front (omega arith) z.1 a.next))
+    (λ z. rw z (blank-start (omega arith))) b in
+    record {
+      low = low;
+      next = on;
+      sixteen = length-set seen (n - 1 - from) near' ∙ a.sixteen;
+      list = seen_more seen near' low (omega arith) (omega (arith, a.sixteen, p.most)) on a.list;
+    }
 
 seen-kept : {m m' seen : List ℕ} {row from u to : ℕ} → ((q : ℕ) → get_or m q 0 ≡ 0 → get_or m' q 0 ≡ 0) → SeenList m row from u to seen → SeenList m' row from u to seen
 seen-kept k l = record { blank = λ i x y. blank-kept k (l.blank i x y) }

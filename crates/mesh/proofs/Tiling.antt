@@ -1,6 +1,5 @@
 -- A part as a box of sections: the place and extents of each, its cells and slots, and the slices filled section by section.
 use mathlib.Core.Path.{◌≡◌, refl, sym, ap, ◌∙◌, subst}
-use mathlib.Core.Bool.{Bool, true}
 use mathlib.Core.List.{List}
 use Prim.Native.Nat.{ℕ, zero, suc, ◌+◌, ◌-◌, ◌*◌, ◌/◌, ◌%◌, ◌≤◌, ◌<◌, min}
 use native.Mathlib.Nat.{add-mul, le-mul_of_pos_right, mul_assoc, mul_comm, mul_left_comm}
@@ -8,25 +7,26 @@ use native.Mathlib.Omega.{arith}
 use lib.Arith.{digits_lt}
 use lib.Bits.{bit_or}
 use lib.ListN.{length}
-use Rattle.stand.specs.Edit.{look}
-use Rattle.stand.specs.Shape.{Shape, cell_from, chunk_place, chunks_in, chunks_on, corner, counted, max_chunks, opens, point_of, product, section_at, sections}
+use Rattle.stand.specs.Shape.{Shape, cell_from, chunk_place, chunks_in, chunks_on, corner, counted, max_chunks, point_of, product, section_at, sections}
 use Rattle.stand.specs.Sides.{axes_at, first_at, normal_at, second_at}
 use Rattle.stand.specs.declared.Axes.{Axes}
 use Rattle.stand.specs.declared.Cell.{Cell}
 use Rattle.stand.specs.declared.volume.shape.Point.{Point}
 use Rattle.stand.proofs.Shape.{Within, sections-few}
 use Rattle.stand.proofs.Slots.{place-section}
-use Rattle.mesh.specs.Part.{added, cell_in, depth_of, facing, height_of, on_axis, section_part, turned, width_of}
+use Rattle.mesh.specs.Part.{added, cell_in, depth_of, facing, height_of, on_axis, section_part, tiled, turned, width_of}
 use Rattle.mesh.specs.Plane.{Filled, Laid}
-use Rattle.mesh.specs.Step.{SectionIs, SliceIn, slice_shown}
-use Rattle.mesh.specs.Tiles.{BandIn, PartIs, SideIn, TileIn, band_shown, part_of, part_shown, tile_place, tiled}
+use Rattle.mesh.specs.Scene.{look_in, open_in, shape_in}
+use Rattle.mesh.specs.Step.{SliceFilled, SliceIn, part_in, slice_shown}
+use Rattle.mesh.specs.Tiles.{BandFilled, BandIn, Cleared, TileIn, band_shown, part_of, part_shown, side_slots, tile_place}
 use Rattle.mesh.specs.Visible.{shown}
-use Rattle.mesh.specs.declared.part.Section.{Section}
-use Rattle.mesh.specs.declared.tiles.Part.{Part}
+use Rattle.mesh.specs.declared.axes.Side.{Side}
+use Rattle.mesh.specs.declared.scene.Part.{Part}
+use Rattle.mesh.specs.declared.scene.Section.{Section}
 use Rattle.mesh.proofs.Facing.{facing-along, turned_so}
 use Rattle.mesh.proofs.Laid.{apart, filled_as, filled-below, filled_beside, row_below}
 use Rattle.mesh.proofs.Parts.{facing-below, points, section-on}
-use Rattle.mesh.proofs.Step.{added-on, room-on}
+use Rattle.mesh.proofs.Step.{added-on, opened, room-on}
 
 -- ---- the index of a section by its place
 
@@ -80,40 +80,52 @@ tiled-on g p n zero = refl
 tiled-on g p n (suc zero) = refl
 tiled-on g p n (suc (suc x)) = refl
 
-module _ (g : Shape) (p : Part) where
+module _ (p : Part) where
   -- each section of a part starts below its cells, and all have them
-  part-some : PartIs g p → (x i : ℕ) → i < on_axis x p.across → i * 16 < on_axis x (part_of g p).count
+  part-some : (x i : ℕ) → i < on_axis x p.across → i * 16 < on_axis x (part_of p).count
   unfolding tiled counted chunks_in chunks_on
-  part-some q zero i h = omega (arith, q.x)
-  part-some q (suc zero) i h = omega (arith, q.y)
-  part-some q (suc (suc x)) i h = omega (arith, q.z)
+  part-some zero i h = omega (arith, p.lies.x)
+  part-some (suc zero) i h = omega (arith, p.lies.y)
+  part-some (suc (suc x)) i h = omega (arith, p.lies.z)
 
-  part-all : (x : ℕ) → on_axis x (part_of g p).count ≤ on_axis x p.across * 16
-  part-all x = omega (arith, tiled-on g p.place p.across x)
+  part-all : (x : ℕ) → on_axis x (part_of p).count ≤ on_axis x p.across * 16
+  part-all x = omega (arith, tiled-on (shape_in p.scene) p.place p.across x)
+
+  -- so it has a cell
+  pub part_some : (x : ℕ) → 1 ≤ on_axis x (part_of p).count
+  part_some x = omega (arith, part-some x 0 (some x))
+    where
+      some : (x : ℕ) → 0 < on_axis x p.across
+      some zero = p.lies.some_x
+      some (suc zero) = p.lies.some_y
+      some (suc (suc x)) = p.lies.some_z
 
 -- ---- section j of a part: at d, a and b along the axes of side s
 
-module _ (g : Shape) (p : Part) (s : ℕ) (q : PartIs g p) (hs : s < 6) where
-  pub deep_lt : (k : ℕ) → k < depth_of (part_of g p) s → k / 16 < on_axis (normal_at s) p.across
+module _ (p : Part) (s : ℕ) (hs : s < 6) where
+  abbrev g : Shape
+  g = shape_in p.scene
+
+  pub deep_lt : (k : ℕ) → k < depth_of (part_of p) s → k / 16 < on_axis (normal_at s) p.across
   unfolding depth_of
-  deep_lt k h = omega (arith, part-all g p (normal_at s))
+  deep_lt k h = omega (arith, part-all p (normal_at s))
 
   module _ (d a b : ℕ) (hd : d < on_axis (normal_at s) p.across) (ha : a < on_axis (first_at s) p.across) (hb : b < on_axis (second_at s) p.across) where
     tile_within : Within (counted g) (tile_place p s d a b)
     unfolding tile_place added
     tile_within =
         let f = facing-below s hs d a b p.across hd ha hb in
-        record { x = omega (arith, f.x, q.x); y = omega (arith, f.y, q.y); z = omega (arith, f.z, q.z) }
+        record { x = omega (arith, f.x, p.lies.x); y = omega (arith, f.y, p.lies.y); z = omega (arith, f.z, p.lies.z) }
 
-    pub tile_in : opens g ≡ true → TileIn p s d a b
+    pub tile_in : TileIn p s d a b
     unfolding sections
-    tile_in o =
-        let w = subst (λ (k : Point). Within k (tile_place p s d a b)) (sym q.chunks) tile_within in
-        record { side = hs; few = rw q.chunks (sections-few g o); x = w.x; y = w.y; z = w.z }
+    tile_in =
+        let w = subst (λ (k : Point). Within k (tile_place p s d a b)) (sym p.lies.chunks) tile_within in
+        record { few = rw p.lies.chunks (sections-few g (opened p.scene)); x = w.x; y = w.y; z = w.z }
 
     module _ (j : ℕ) (e : j ≡ section_at p.chunks (tile_place p s d a b)) where
       tile_is : j ≡ section_at (counted g) (tile_place p s d a b)
-      tile_is = e ∙ ap (λ (k : Point). section_at k (tile_place p s d a b)) q.chunks
+      tile_is = e ∙ ap (λ (k : Point). section_at k (tile_place p s d a b)) p.lies.chunks
 
       pub tile_lt : j < sections g
       unfolding sections
@@ -122,7 +134,7 @@ module _ (g : Shape) (p : Part) (s : ℕ) (q : PartIs g p) (hs : s < 6) where
       tile_place_lem : chunk_place (counted g) j ≡ tile_place p s d a b
       tile_place_lem = let w = tile_within in ap (chunk_place (counted g)) tile_is ∙ place-section (counted g) (tile_place p s d a b) w.x w.y
 
-      tile_on : (x i : ℕ) → on_axis x (facing s d a b) ≡ i → i < on_axis x p.across → on_axis x (section_part g j).count ≡ min 16 (on_axis x (part_of g p).count - i * 16)
+      tile_on : (x i : ℕ) → on_axis x (facing s d a b) ≡ i → i < on_axis x p.across → on_axis x (section_part g j).count ≡ min 16 (on_axis x (part_of p).count - i * 16)
       unfolding tile_place
       tile_on x i f h =
           let c = section-on g j tile_lt x in
@@ -130,20 +142,20 @@ module _ (g : Shape) (p : Part) (s : ℕ) (q : PartIs g p) (hs : s < 6) where
           let w = ap (on_axis x) tile_place_lem ∙ added-on x p.place (facing s d a b) in
           omega (arith, c.is, t, w, f)
 
-      pub tile_deep : depth_of (section_part g j) s ≡ min 16 (depth_of (part_of g p) s - d * 16)
+      pub tile_deep : depth_of (section_part g j) s ≡ min 16 (depth_of (part_of p) s - d * 16)
       unfolding depth_of
       tile_deep = tile_on (normal_at s) d (facing-along s hs d a b).normal hd
 
-      pub tile_wide : width_of (section_part g j) s ≡ min 16 (width_of (part_of g p) s - a * 16)
+      pub tile_wide : width_of (section_part g j) s ≡ min 16 (width_of (part_of p) s - a * 16)
       unfolding width_of
       tile_wide = tile_on (first_at s) a (facing-along s hs d a b).first ha
 
-      pub tile_high : height_of (section_part g j) s ≡ min 16 (height_of (part_of g p) s - b * 16)
+      pub tile_high : height_of (section_part g j) s ≡ min 16 (height_of (part_of p) s - b * 16)
       unfolding height_of
       tile_high = tile_on (second_at s) b (facing-along s hs d a b).second hb
 
       -- its cells are cells of the part
-      pub tile_cell : (k : ℕ) → d ≡ k / 16 → (u v : ℕ) → cell_in g (section_part g j) s (k % 16) u v ≡ cell_in g (part_of g p) s k (a * 16 + u) (b * 16 + v)
+      pub tile_cell : (k : ℕ) → d ≡ k / 16 → (u v : ℕ) → cell_in g (section_part g j) s (k % 16) u v ≡ cell_in g (part_of p) s k (a * 16 + u) (b * 16 + v)
       unfolding cell_in section_part tiled corner tile_place added facing
       tile_cell k f u v =
           let w = tile_place_lem in
@@ -157,77 +169,80 @@ module _ (g : Shape) (p : Part) (s : ℕ) (q : PartIs g p) (hs : s < 6) where
 
 -- ---- a slice filled, section by section
 
-module _ (g : Shape) (p : Part) (s : ℕ) where
+module _ (p : Part) (s : ℕ) where
+  abbrev shape : Shape
+  shape = shape_in p.scene
+
   abbrev wide : ℕ
-  wide = width_of (part_of g p) s
+  wide = width_of (part_of p) s
 
   abbrev high : ℕ
-  high = height_of (part_of g p) s
+  high = height_of (part_of p) s
 
   -- band b, of which the sections before a are laid
-  abbrev pub BandTo : Bool → List ℕ → ℕ → ℕ → ℕ → List ℕ → List ℕ → ℕ → Type 0
-  BandTo beyond cells k b a m m' r = Filled m m' r (b * 16 * wide) wide (min (a * 16) wide) (min 16 (high - b * 16)) (band_shown beyond g cells p s k b)
+  abbrev pub BandTo : ℕ → ℕ → ℕ → List ℕ → List ℕ → ℕ → Type 0
+  BandTo k b a m m' r = Filled m m' r (b * 16 * wide) wide (min (a * 16) wide) (min 16 (high - b * 16)) (band_shown p s k b)
 
   -- a slice, of which the bands before b are laid
-  abbrev pub PartTo : Bool → List ℕ → ℕ → ℕ → List ℕ → List ℕ → ℕ → Type 0
-  PartTo beyond cells k b m m' r = Filled m m' r 0 wide wide (min (b * 16) high) (part_shown beyond g cells p s k)
+  abbrev pub PartTo : ℕ → ℕ → List ℕ → List ℕ → ℕ → Type 0
+  PartTo k b m m' r = Filled m m' r 0 wide wide (min (b * 16) high) (part_shown p s k)
 
   pub wide-all : (a : ℕ) → on_axis (first_at s) p.across ≤ a → min (a * 16) wide ≡ wide
   unfolding width_of
-  wide-all a h = omega (arith, part-all g p (first_at s))
+  wide-all a h = omega (arith, part-all p (first_at s))
 
   pub high-all : (b : ℕ) → on_axis (second_at s) p.across ≤ b → min (b * 16) high ≡ high
   unfolding height_of
-  high-all b h = omega (arith, part-all g p (second_at s))
+  high-all b h = omega (arith, part-all p (second_at s))
 
-  module _ (q : PartIs g p) where
-    pub wide-some : {a : ℕ} → a < on_axis (first_at s) p.across → a * 16 < wide
-    unfolding width_of
-    wide-some {a} h = part-some g p q (first_at s) a h
+  pub wide-some : {a : ℕ} → a < on_axis (first_at s) p.across → a * 16 < wide
+  unfolding width_of
+  wide-some {a} h = part-some p (first_at s) a h
 
-    pub high-some : {b : ℕ} → b < on_axis (second_at s) p.across → b * 16 < high
-    unfolding height_of
-    high-some {b} h = part-some g p q (second_at s) b h
+  pub high-some : {b : ℕ} → b < on_axis (second_at s) p.across → b * 16 < high
+  unfolding height_of
+  high-some {b} h = part-some p (second_at s) b h
 
-  module _ {cells m₀ : List ℕ} {k b : ℕ} (z : BandIn g cells m₀ p s k b) where
+  module _ {m₀ : List ℕ} {k b : ℕ} (hs : s < 6) (z : BandIn m₀ p s k b) where
     pub band_small : b * 16 < 4294967296
     unfolding height_of
-    band_small = omega (arith, high-some z.part z.band, tiled-on g p.place p.across (second_at s), room-on g z.opened z.ranged (second_at s))
+    band_small = omega (arith, high-some z.band, tiled-on shape p.place p.across (second_at s), room-on shape (opened p.scene) p.lies.ranged (second_at s))
 
     pub band-room : (w : ℕ) → w ≡ wide → b * 16 * w + w ≤ length m₀
-    band-room w e = rw e (omega (arith, z.room, row_below wide (b * 16) high (high-some z.part z.band)))
+    band-room w e = rw e (omega (arith, z.room, row_below wide (b * 16) high (high-some z.band)))
 
     module _ (a : ℕ) (ha : a < on_axis (first_at s) p.across) where
       deep : k / 16 < on_axis (normal_at s) p.across
-      deep = deep_lt g p s z.part z.side k z.slice
+      deep = deep_lt p s hs k z.slice
 
       pub band_tile : TileIn p s (k / 16) a b
-      band_tile = tile_in g p s z.part z.side (k / 16) a b deep ha z.band z.opened
+      band_tile = tile_in p s hs (k / 16) a b deep ha z.band
 
-      module _ (j : ℕ) (e : j ≡ section_at p.chunks (tile_place p s (k / 16) a b)) where
-        pub chunk-lt : j < sections g
-        chunk-lt = tile_lt g p s z.part z.side (k / 16) a b deep ha z.band j e
+      pub chunk-lt : {j : ℕ} → j ≡ section_at p.chunks (tile_place p s (k / 16) a b) → j < sections shape
+      chunk-lt {j} e = tile_lt p s hs (k / 16) a b deep ha z.band j e
 
-        deep_is : depth_of (section_part g j) s ≡ min 16 (depth_of (part_of g p) s - k / 16 * 16)
-        deep_is = tile_deep g p s z.part z.side (k / 16) a b deep ha z.band j e
+      -- the section laid next
+      module _ (c : Section) (at : c.scene ≡ p.scene) (e : c.chunk ≡ section_at p.chunks (tile_place p s (k / 16) a b)) where
+        deep_is : depth_of (part_in c) s ≡ min 16 (depth_of (part_of p) s - k / 16 * 16)
+        deep_is = rw at (tile_deep p s hs (k / 16) a b deep ha z.band c.chunk e)
 
-        wide_is : width_of (section_part g j) s ≡ min 16 (wide - a * 16)
-        wide_is = tile_wide g p s z.part z.side (k / 16) a b deep ha z.band j e
+        wide_is : width_of (part_in c) s ≡ min 16 (wide - a * 16)
+        wide_is = rw at (tile_wide p s hs (k / 16) a b deep ha z.band c.chunk e)
 
-        high_is : height_of (section_part g j) s ≡ min 16 (high - b * 16)
-        high_is = tile_high g p s z.part z.side (k / 16) a b deep ha z.band j e
+        high_is : height_of (part_in c) s ≡ min 16 (high - b * 16)
+        high_is = rw at (tile_high p s hs (k / 16) a b deep ha z.band c.chunk e)
 
-        next-is : (beyond : Bool) (u v : ℕ) → slice_shown beyond g cells j s (k % 16) u v ≡ band_shown beyond g cells p s k b (a * 16 + u) v
-        next-is beyond u v =
-            ap (λ (c : Cell). shown beyond g (look g cells) s c) (tile_cell g p s z.part z.side (k / 16) a b deep ha z.band j e k refl u v)
+        next-is : (u v : ℕ) → slice_shown c s (k % 16) u v ≡ band_shown p s k b (a * 16 + u) v
+        next-is u v =
+            rw at
+            (ap (λ (d : Cell). shown (open_in p.scene) shape (look_in p.scene) s d) (tile_cell p s hs (k / 16) a b deep ha z.band c.chunk e k refl u v))
 
         pub slice_in : {m : List ℕ} {f : ℕ → ℕ → ℕ} → Laid m₀ m (b * 16 * wide) wide (min (a * 16) wide) (min 16 (high - b * 16)) f
-            → (w : ℕ) → w ≡ wide → {c : Section} → SectionIs g j c → SliceIn g cells m c j s (k % 16) (b * 16 * w + a * 16) w
-        slice_in {m} l w ew {c} i =
-            subst (λ (w : ℕ). SliceIn g cells m c j s (k % 16) (b * 16 * w + a * 16) w) (sym ew)
+            → (w : ℕ) → w ≡ wide → SliceIn m c s (k % 16) (b * 16 * w + a * 16) w
+        slice_in {m} l w ew =
+            subst (λ (w : ℕ). SliceIn m c s (k % 16) (b * 16 * w + a * 16) w) (sym ew)
             (record {
-              from = record { opened = z.opened; ranged = z.ranged; chunk = chunk-lt; section = i; side = z.side; slice = omega (arith, z.slice, deep_is) };
-              cells_are = z.cells_are;
+              slice = omega (arith, z.slice, deep_is);
               wide = omega (arith, wide_is);
               rows = λ v h. omega (arith, in_row v h, left, wide_is, l.same, z.room);
               zero = λ u v hu hv.
@@ -237,65 +252,55 @@ module _ (g : Shape) (p : Part) (s : ℕ) where
             })
           where
             left : a * 16 < wide
-            left = wide-some z.part ha
+            left = wide-some ha
 
-            in_row : (v : ℕ) → v < height_of (section_part g j) s → b * 16 * wide + v * wide + wide ≤ high * wide
+            in_row : (v : ℕ) → v < height_of (part_in c) s → b * 16 * wide + v * wide + wide ≤ high * wide
             in_row v h = omega (arith, add-mul (b * 16) v wide, row_below wide (b * 16 + v) high (omega (arith, high_is)))
 
-        pub band_more : (beyond : Bool) {m m' : List ℕ} {r t : ℕ} → BandTo beyond cells k b a m₀ m r → (w : ℕ) → w ≡ wide
-            → Filled m m' t (b * 16 * w + a * 16) w (width_of (section_part g j) s) (height_of (section_part g j) s) (slice_shown beyond g cells j s (k % 16))
-            → BandTo beyond cells k b (a + 1) m₀ m' (bit_or r t)
-        band_more beyond {m} {m'} {r} {t} l w ew x =
-            let left = wide-some z.part ha in
+        pub band_more : {m m' : List ℕ} {r t : ℕ} → BandTo k b a m₀ m r → (w : ℕ) → w ≡ wide
+            → SliceFilled c s (k % 16) (b * 16 * w + a * 16) w m m' t
+            → BandTo k b (a + 1) m₀ m' (bit_or r t)
+        band_more {m} {m'} {r} {t} l w ew x =
+            let left = wide-some ha in
             let n : min (a * 16) wide ≡ a * 16 = omega arith in
             let next : a * 16 + min 16 (wide - a * 16) ≡ min ((a + 1) * 16) wide = omega arith in
-            let f : ℕ → ℕ → ℕ = band_shown beyond g cells p s k b in
-            let one : Filled m m' t (b * 16 * wide + a * 16) wide (min 16 (wide - a * 16)) (min 16 (high - b * 16)) (slice_shown beyond g cells j s (k % 16)) =
-            subst (λ (w : ℕ). Filled m m' t (b * 16 * w + a * 16) w (min 16 (wide - a * 16)) (min 16 (high - b * 16)) (slice_shown beyond g cells j s (k % 16))) ew
-            (subst (λ (n : ℕ). Filled m m' t (b * 16 * w + a * 16) w n (min 16 (high - b * 16)) (slice_shown beyond g cells j s (k % 16))) wide_is
-            (subst (λ (n : ℕ). Filled m m' t (b * 16 * w + a * 16) w (width_of (section_part g j) s) n (slice_shown beyond g cells j s (k % 16))) high_is x)) in
+            let f : ℕ → ℕ → ℕ = band_shown p s k b in
+            let one : Filled m m' t (b * 16 * wide + a * 16) wide (min 16 (wide - a * 16)) (min 16 (high - b * 16)) (slice_shown c s (k % 16)) =
+            subst (λ (w : ℕ). Filled m m' t (b * 16 * w + a * 16) w (min 16 (wide - a * 16)) (min 16 (high - b * 16)) (slice_shown c s (k % 16))) ew
+            (subst (λ (n : ℕ). Filled m m' t (b * 16 * w + a * 16) w n (min 16 (high - b * 16)) (slice_shown c s (k % 16))) wide_is
+            (subst (λ (n : ℕ). Filled m m' t (b * 16 * w + a * 16) w (width_of (part_in c) s) n (slice_shown c s (k % 16))) high_is x)) in
             subst (λ (n : ℕ). Filled m₀ m' (bit_or r t) (b * 16 * wide) wide n (min 16 (high - b * 16)) f) next
             (filled_beside (omega arith) (subst (λ (n : ℕ). Filled m₀ m r (b * 16 * wide) wide n (min 16 (high - b * 16)) f) n l)
-            (filled_as (λ u v _ _. next-is beyond u v) one))
+            (filled_as (λ u v _ _. next-is u v) one))
 
-  module _ (k b : ℕ) {cells m₀ : List ℕ} (z : SideIn g cells m₀ p s) (hb : b < on_axis (second_at s) p.across) where
-    pub band_in : k < depth_of (part_of g p) s → {m : List ℕ} {f : ℕ → ℕ → ℕ} → Laid m₀ m 0 wide wide (min (b * 16) high) f → BandIn g cells m p s k b
+  module _ (k b : ℕ) {m₀ : List ℕ} (z : Cleared (side_slots p s) m₀) (hb : b < on_axis (second_at s) p.across) where
+    pub band_in : k < depth_of (part_of p) s → {m : List ℕ} {f : ℕ → ℕ → ℕ} → Laid m₀ m 0 wide wide (min (b * 16) high) f → BandIn m p s k b
     band_in h {m} l =
         record {
-          opened = z.opened;
-          ranged = z.ranged;
-          cells_are = z.cells_are;
-          part = z.part;
-          side = z.side;
           slice = h;
           band = hb;
           room = omega (arith, z.room, l.same);
           zero = λ q lo hi. l.kept q (λ u v hu hv o. omega (arith, row_below wide v (b * 16) (omega arith))) ∙ z.zero q hi;
         }
 
-    pub part_more : (beyond : Bool) {m m' : List ℕ} {r t : ℕ} → PartTo beyond cells k b m₀ m r
-        → Filled m m' t (b * 16 * wide) wide wide (min 16 (high - b * 16)) (band_shown beyond g cells p s k b) → PartTo beyond cells k (b + 1) m₀ m' (bit_or r t)
-    part_more beyond {m} {m'} {r} {t} l x =
-        let left = high-some z.part hb in
+    pub part_more : {m m' : List ℕ} {r t : ℕ} → PartTo k b m₀ m r → BandFilled p s k b m m' t → PartTo k (b + 1) m₀ m' (bit_or r t)
+    part_more {m} {m'} {r} {t} l x =
+        let left = high-some hb in
         let n : min (b * 16) high ≡ b * 16 = omega arith in
         let next : b * 16 + min 16 (high - b * 16) ≡ min ((b + 1) * 16) high = omega arith in
         let at : b * 16 * wide ≡ 0 + b * 16 * wide = omega arith in
-        let f : ℕ → ℕ → ℕ = part_shown beyond g cells p s k in
+        let f : ℕ → ℕ → ℕ = part_shown p s k in
         subst (λ (n : ℕ). Filled m₀ m' (bit_or r t) 0 wide wide n f) next
         (filled-below (omega arith) (subst (λ (n : ℕ). Filled m₀ m r 0 wide wide n f) n l)
-        (subst (λ (i : ℕ). Filled m m' t i wide wide (min 16 (high - b * 16)) (band_shown beyond g cells p s k b)) at x))
+        (subst (λ (i : ℕ). Filled m m' t i wide wide (min 16 (high - b * 16)) (band_shown p s k b)) at x))
 
--- ---- what the code reads off its part
+-- ---- what the code reads off a point by a side's axes
 
-module _ (s : ℕ) {axes : Axes} (e : axes ≡ axes_at s) where
-  pub first-is : {r : ℕ} (x : Point) → r ≡ on_axis axes.first x → r ≡ on_axis (first_at s) x
+module _ (t : Side) {r : ℕ} (x : Point) where
+  pub first-is : r ≡ on_axis t.axes.first x → r ≡ on_axis (first_at t.number) x
   unfolding axes_at
-  first-is x h = h ∙ ap (λ (t : Axes). on_axis t.first x) e
+  first-is h = h ∙ ap (λ (a : Axes). on_axis a.first x) t.read
 
-  pub second_is : {r : ℕ} (x : Point) → r ≡ on_axis axes.second x → r ≡ on_axis (second_at s) x
+  pub second_is : r ≡ on_axis t.axes.second x → r ≡ on_axis (second_at t.number) x
   unfolding axes_at
-  second_is x h = h ∙ ap (λ (t : Axes). on_axis t.second x) e
-
-  pub width_is : (g : Shape) {p : Part} {r : ℕ} → PartIs g p → r ≡ on_axis axes.first p.count → r ≡ width_of (part_of g p) s
-  unfolding width_of
-  width_is g {p} q h = first-is p.count h ∙ ap (on_axis (first_at s)) q.count
+  second_is h = h ∙ ap (λ (a : Axes). on_axis a.second x) t.read

@@ -1,16 +1,10 @@
 -- What the claiming functions need and give, by name.
 use Rattle.std.specs.Prelude.{◌≡◌, List, ℕ, ◌+◌, ◌*◌, ◌≤◌, ◌<◌, get_or, length}
 use Rattle.mesh.specs.Scan.{run_len, rows_len, clear_run, clear_rect, place, rect_at, clear_of}
-use Rattle.mesh.specs.declared.claim.Claim.{Claim}
+use Rattle.mesh.specs.declared.claim.Rect.{Rect}
 
--- the first of `most` slots from `at` on holds x
-pub record TakePre (m : List ℕ) (at most x : ℕ) : Type 0 where
-  pub some : 0 < most
-  pub room : at + most ≤ length m
-  pub here : get_or m at 0 ≡ x
-
-pub record TakePost (m m' : List ℕ) (at most x r : ℕ) : Type 0 where
-  pub run : r ≡ run_len m at most x
+pub record TakePost (m m' : List ℕ) (at most r : ℕ) : Type 0 where
+  pub run : r ≡ run_len m at most (get_or m at 0)
   pub mask : m' ≡ clear_run m at r
   pub low : 1 ≤ r
   pub high : r ≤ most
@@ -25,20 +19,18 @@ pub record RowsPost (m m' : List ℕ) (w at run most x r : ℕ) : Type 0 where
   pub mask : m' ≡ clear_rect m w at run r
   pub high : r ≤ most
 
--- the mask has h rows of w slots, and its slot (u, v), at `at`, holds x, which is not 0
-pub record ClaimPre (m : List ℕ) (w h u v at x : ℕ) : Type 0 where
+-- the mask has h rows of w slots, and its slot (u, v), at `at`, is not 0
+pub record ClaimPre (m : List ℕ) (w h u v at : ℕ) : Type 0 where
   pub whole : h * w ≤ length m
   pub first : u < w
   pub second : v < h
   pub here : at ≡ place w u v
-  pub holds : get_or m at 0 ≡ x
-  pub seen : x ≡ 0 → ⊥
+  pub seen : get_or m at 0 ≡ 0 → ⊥
 
 -- the rectangle claimed from (u, v), which is 0 in the mask afterwards
-pub record ClaimPost (m m' : List ℕ) (w h u v : ℕ) (r : Claim) : Type 0 where
-  pub run : r.run ≡ (rect_at w h m u v).run
-  pub rows : r.rows ≡ (rect_at w h m u v).rows
-  pub mask : m' ≡ clear_of w m (rect_at w h m u v)
+pub record ClaimPost (m m' : List ℕ) (w h u v : ℕ) (r : Rect) : Type 0 where
+  pub rect : r ≡ rect_at w h m u v
+  pub mask : m' ≡ clear_of w m r
   pub some-run : 1 ≤ r.run
   pub some-rows : 1 ≤ r.rows
   pub wide : u + r.run ≤ w

@@ -1,18 +1,17 @@
--- The calls that mesh: document 01, 'Panels', and 3, 4, 7, 10 and 11 of 'Calls turned back'.
-use Rattle.std.specs.Prelude.{ℕ, zero, suc, ◌*◌, ◌/◌, ◌≡◌, Bool, true, cond, List, [], ◌∷◌, ◌++◌, leb, ltb, ℤ, length, drop, replicate}
+-- The calls that mesh: document 01, 'Panels', and 3, 4, 7, 10 and 11 of 'Calls refused'.
+use Rattle.std.specs.Prelude.{ℕ, zero, suc, ◌/◌, Bool, cond, List, [], ◌∷◌, ◌++◌, leb, ltb, ℤ, length, drop, replicate, Result, Ok, Err}
+use Rattle.stand.specs.Answer.{refusal_number}
 use Rattle.stand.specs.Edit.{look}
 use Rattle.stand.specs.Refusal.{Answer, Rule, ◌⇒◌, answer, first, header_rules, list_rules}
-use Rattle.stand.specs.Shape.{Ranged, Shape, sections, shape_of, well_formed}
+use Rattle.stand.specs.Shape.{Shape, sections, shape_of}
 use Rattle.stand.specs.declared.volume.Volume.{Volume}
 use Rattle.stand.specs.declared.volume.shape.Region.{Region}
 use Rattle.mesh.specs.Panels.{part_panels}
 use Rattle.mesh.specs.Part.{largest_side, section_part, whole_part}
 use Rattle.mesh.specs.Quad.{write_from}
-use Rattle.mesh.specs.Tiles.{PartIn, PartIs, part_of}
 use Rattle.mesh.specs.declared.Quad.{Quad}
-use Rattle.mesh.specs.declared.faces.FacesAnswer.{FacesAnswer}
-use Rattle.mesh.specs.declared.faces.FacesAnswer.TheVariants as F
-use Rattle.mesh.specs.declared.tiles.Part.{Part}
+use Rattle.mesh.specs.declared.faces.Unmeshed.{Unmeshed}
+use Rattle.mesh.specs.declared.faces.Unmeshed.TheVariants as U
 
 -- what a meshing call answers: the panels written; refused by a number; or refused by one that adds the panels needed
 pub data Meshed : Type 0 where
@@ -20,10 +19,10 @@ pub data Meshed : Type 0 where
   refused : ℕ → Meshed
   short : ℕ → ℕ → Meshed
 
-abbrev pub faces_answer : FacesAnswer → Meshed
-faces_answer (F.Is n) = panels n
-faces_answer (F.TooShort n) = short 11 n
-faces_answer (F.Refused n) = refused n
+abbrev pub faces_answer : Result ℕ Unmeshed → Meshed
+faces_answer (Ok n) = panels n
+faces_answer (Err (U.Refused r)) = refused (refusal_number r)
+faces_answer (Err (U.TooShort n)) = short 11 n
 
 -- answer, mask and list after a call
 pub record Meshing : Type 0 where
@@ -33,6 +32,10 @@ pub record Meshing : Type 0 where
 
 abbrev pub meshing_of : Meshed → List ℕ → List ℤ → Meshing
 meshing_of a m l = record { answer = a; mask = m; list = l }
+
+-- 'Calls turned back', 7: there is no section i
+abbrev pub chunk_rules : Volume → ℕ → List Rule
+chunk_rules v i = (leb (sections (shape_of v)) i ⇒ 7) ∷ []
 
 -- 'Calls turned back': accepted or refused by 11, as many first slots as 10 wants are 0
 unfoldable pub wiped : ℕ → List ℕ → List ℕ
@@ -57,17 +60,8 @@ faces_call v cells beyond m l = part_call (list_rules 4096 v (length cells)) (sh
 
 unfoldable pub chunk_faces_call : Volume → List ℕ → ℕ → Bool → List ℕ → List ℤ → Meshing
 chunk_faces_call v cells i beyond m l =
-    part_call (list_rules 4096 v (length cells) ++ (leb (sections (shape_of v)) i ⇒ 7) ∷ []) (shape_of v) cells beyond (section_part (shape_of v) i) m l
+    part_call (list_rules 4096 v (length cells) ++ chunk_rules v i) (shape_of v) cells beyond (section_part (shape_of v) i) m l
 
 -- how many mask slots a section wants
 unfoldable pub slots_call : Volume → ℕ → Answer ℕ
-slots_call v i = answer (first (header_rules v ++ (leb (sections (shape_of v)) i ⇒ 7) ∷ [])) (largest_side (section_part (shape_of v) i))
-
--- ---- for the code
-
-pub record PartGiven (v : Volume) (cells : List ℕ) (p : Part) : Type 0 where
-  pub formed : well_formed v ≡ true
-  pub ranged : Ranged v.origin
-  pub cells_are : length cells ≡ sections (shape_of v) * 4096
-  pub part : PartIs (shape_of v) p
-  pub within : PartIn (shape_of v) (part_of (shape_of v) p)
+slots_call v i = answer (first (header_rules v ++ chunk_rules v i)) (largest_side (section_part (shape_of v) i))

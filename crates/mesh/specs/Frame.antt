@@ -9,7 +9,8 @@ use Rattle.stand.specs.declared.volume.shape.Region.{Region}
 use Rattle.mesh.specs.Panels.{face_of}
 use Rattle.mesh.specs.Part.{added, facing, height_of, on_axis, turned, width_of}
 use Rattle.mesh.specs.Quad.{write_from}
-use Rattle.mesh.specs.Scan.{Rect, State, fresh, place, rect_at, scan, slot, step_at}
+use Rattle.mesh.specs.Scan.{State, fresh, place, rect_at, scan, slot, step_at}
+use Rattle.mesh.specs.declared.claim.Rect.{Rect}
 use Rattle.mesh.specs.declared.Quad.{Quad}
 use Rattle.mesh.specs.declared.scan.Frame.{Frame}
 use Rattle.mesh.specs.declared.scan.Turn.{Turn}
@@ -41,9 +42,6 @@ quad_from f r =
       extent = extent_of (facing f.side 1 r.run r.rows);
     }
 
-abbrev pub rect_of : ℕ → ℕ → ℕ → ℕ → ℕ → Rect
-rect_of u v run rows value = record { u = u; v = v; run = run; rows = rows; value = value }
-
 -- ---- for the code
 
 -- a side and its axes, levels of i32, and a width and height that a stand can have
@@ -56,11 +54,11 @@ pub record Lies (f : Frame) : Type 0 where
   pub width : f.width ≤ 16 * max_chunks
   pub height : f.height ≤ 16 * max_chunks
 
-pub record PutPre (f : Frame) (u v run rows value : ℕ) : Type 0 where
+pub record PutPre (f : Frame) (r : Rect) : Type 0 where
   pub lies : Lies f
-  pub wide : u + run ≤ f.width
-  pub high : v + rows ≤ f.height
-  pub finish : value < 2 ^ 16
+  pub wide : r.u + r.run ≤ f.width
+  pub high : r.v + r.rows ≤ f.height
+  pub finish : r.value < 2 ^ 16
 
 pub record StepPre (len : ℕ) (f : Frame) (u v at count : ℕ) : Type 0 where
   pub lies : Lies f

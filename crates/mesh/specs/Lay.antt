@@ -1,22 +1,18 @@
 -- The visible finishes of a section's slice laid into a mask: document 01, 'Panels', and 3, 4, 7 and 10 of 'Calls turned back'.
-use Rattle.std.specs.Prelude.{◌≡◌, Bool, true, cond, List, [], ◌∷◌, ◌++◌, ℕ, zero, suc, ◌≤◌, leb, ltb, drop, length}
+use Rattle.std.specs.Prelude.{Bool, cond, List, [], ◌∷◌, ◌++◌, ℕ, zero, suc, ltb, drop, length}
 use Rattle.stand.specs.Edit.{look}
 use Rattle.stand.specs.Refusal.{Answer, ◌⇒◌, first, gives, list_rules, refused}
-use Rattle.stand.specs.Shape.{Ranged, Shape, opens, sections, shape_of}
+use Rattle.stand.specs.Shape.{Shape, shape_of}
 use Rattle.stand.specs.Sides.{side_number}
 use Rattle.stand.specs.declared.Cell.{Cell}
 use Rattle.stand.specs.declared.Face.{Face}
 use Rattle.stand.specs.declared.volume.Volume.{Volume}
 use Rattle.stand.specs.declared.volume.shape.Region.{Region}
-use Rattle.mesh.specs.Faces.{wiped}
+use Rattle.mesh.specs.Faces.{chunk_rules, wiped}
 use Rattle.mesh.specs.Panels.{slice_panels}
 use Rattle.mesh.specs.Part.{cell_in, depth_of, height_of, largest_side, section_part, slice_mask, width_of}
-use Rattle.mesh.specs.Tiles.{PartIn, PartIs, part_of}
 use Rattle.mesh.specs.declared.Quad.{Quad}
-use Rattle.mesh.specs.declared.lay.SliceAnswer.{SliceAnswer}
-use Rattle.mesh.specs.declared.lay.SliceAnswer.TheVariants as A
 use Rattle.mesh.specs.declared.slice.Slice.{Slice}
-use Rattle.mesh.specs.declared.tiles.Part.{Part}
 
 -- slice k of side f of a part; past the depth one without slots, at the lowest cell
 unfoldable pub slice_of : Shape → Region → Face → ℕ → Slice
@@ -44,10 +40,6 @@ pub record Sliced : Type 0 where
 abbrev pub sliced_of : Answer Slice → List ℕ → Sliced
 sliced_of a m = record { answer = a; mask = m }
 
-abbrev pub slice_answer : SliceAnswer → Answer Slice
-slice_answer (A.Is s) = gives s
-slice_answer (A.Refused n) = refused n
-
 -- under a refusal's number, 0 for none
 unfoldable pub sliced : ℕ → Slice → List ℕ → List ℕ → Sliced
 sliced zero s m m' = sliced_of (gives s) m'
@@ -57,19 +49,7 @@ sliced (suc n) s m m' = sliced_of (refused (suc n)) m
 unfoldable pub slice_call : Volume → List ℕ → ℕ → Face → ℕ → Bool → List ℕ → Sliced
 slice_call v cells i f k beyond m =
     sliced
-    (first (list_rules 4096 v (length cells) ++ (leb (sections (shape_of v)) i ⇒ 7) ∷ (ltb (length m) (largest_side (section_part (shape_of v) i)) ⇒ 10) ∷ []))
+    (first (list_rules 4096 v (length cells) ++ (chunk_rules v i ++ (ltb (length m) (largest_side (section_part (shape_of v) i)) ⇒ 10) ∷ [])))
     (slice_of (shape_of v) (section_part (shape_of v) i) f k)
     m
     (laid_mask beyond (shape_of v) (look (shape_of v) cells) (section_part (shape_of v) i) (side_number f) k (wiped (largest_side (section_part (shape_of v) i)) m))
-
--- ---- for the code
-
--- a part with a cell
-pub record SomePart (g : Shape) (p : Part) : Type 0 where
-  pub opened : opens g ≡ true
-  pub ranged : Ranged g.origin
-  pub part : PartIs g p
-  pub within : PartIn g (part_of g p)
-  pub x : 1 ≤ (part_of g p).count.x
-  pub y : 1 ≤ (part_of g p).count.y
-  pub z : 1 ≤ (part_of g p).count.z

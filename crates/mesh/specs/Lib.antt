@@ -13,6 +13,7 @@ pub mod Part
 pub mod Plane
 pub mod Quad
 pub mod Scan
+pub mod Scene
 pub mod Slice
 pub mod Step
 pub mod Stretch

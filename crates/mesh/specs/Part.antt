@@ -1,6 +1,6 @@
 -- The part meshed, its slices and their slots: document 01, 'Panels'.
-use Rattle.std.specs.Prelude.{ℕ, zero, suc, ◌+◌, ◌-◌, ◌*◌, ◌/◌, ◌%◌, min, max, Bool, cond, List, [], ◌∷◌, ◌++◌, eqb}
-use Rattle.stand.specs.Shape.{Shape, cell_from, corner, counted, point_of}
+use Rattle.std.specs.Prelude.{◌≡◌, ◌≤◌, ◌<◌, ℕ, zero, suc, ◌+◌, ◌-◌, ◌*◌, ◌/◌, ◌%◌, min, max, Bool, cond, List, [], ◌∷◌, ◌++◌, eqb}
+use Rattle.stand.specs.Shape.{Ranged, Shape, cell_from, chunk_place, corner, counted, levels_of, point_of, sections}
 use Rattle.stand.specs.Sides.{first_at, normal_at, second_at}
 use Rattle.stand.specs.declared.Cell.{Cell}
 use Rattle.stand.specs.declared.volume.shape.Point.{Point}
@@ -26,15 +26,27 @@ facing s k u v = point_of (turned 0 s k u v) (turned 1 s k u v) (turned 2 s k u 
 unfoldable pub whole_part : Shape → Region
 whole_part g = record { low = point_of 0 0 0; count = g.size }
 
--- a section, cut short by the size
+-- the cells along each axis of the section at corner d, cut short by the size
+abbrev pub cut_at : Shape → Point → Point
+cut_at g d = point_of (min 16 (g.size.x - d.x)) (min 16 (g.size.y - d.y)) (min 16 (g.size.z - d.z))
+
+-- a section
 unfoldable pub section_part : Shape → ℕ → Region
 section_part g i =
     record {
       low = corner (counted g) i;
+      count = cut_at g (corner (counted g) i);
+    }
+
+-- a box of sections: n of them along each axis, the lowest at place p
+unfoldable pub tiled : Shape → Point → Point → Region
+tiled g p n =
+    record {
+      low = point_of (p.x * 16) (p.y * 16) (p.z * 16);
       count = point_of
-          (min 16 (g.size.x - (corner (counted g) i).x))
-          (min 16 (g.size.y - (corner (counted g) i).y))
-          (min 16 (g.size.z - (corner (counted g) i).z));
+          (min (n.x * 16) (g.size.x - p.x * 16))
+          (min (n.y * 16) (g.size.y - p.y * 16))
+          (min (n.z * 16) (g.size.z - p.z * 16));
     }
 
 unfoldable pub depth_of : Region → ℕ → ℕ
@@ -70,3 +82,27 @@ table f (suc n) = table f n ++ (f n ∷ [])
 
 unfoldable pub slice_mask : Bool → Shape → (Cell → ℕ) → Region → ℕ → ℕ → List ℕ
 slice_mask beyond g look r s k = table (slot_shown beyond g look r s k) (height_of r s * width_of r s)
+
+-- ---- for the code: what it knows of a section, and of a box of sections
+
+-- section i: l the levels of its lowest cell, n its cells along each axis, p its place, k the sections of the stand
+pub record SectionLies (g : Shape) (i : ℕ) (l n p k : Point) : Type 0 where
+  pub ranged : Ranged g.origin
+  pub chunk : i < sections g
+  pub chunks : k ≡ counted g
+  pub place : p ≡ chunk_place (counted g) i
+  pub low : l ≡ added (levels_of g.origin) (section_part g i).low
+  pub count : n ≡ (section_part g i).count
+
+-- the same of a box of a sections along each axis, one at least
+pub record PartLies (g : Shape) (l n p a k : Point) : Type 0 where
+  pub ranged : Ranged g.origin
+  pub chunks : k ≡ counted g
+  pub some_x : 1 ≤ a.x
+  pub some_y : 1 ≤ a.y
+  pub some_z : 1 ≤ a.z
+  pub x : p.x + a.x ≤ (counted g).x
+  pub y : p.y + a.y ≤ (counted g).y
+  pub z : p.z + a.z ≤ (counted g).z
+  pub low : l ≡ added (levels_of g.origin) (tiled g p a).low
+  pub count : n ≡ (tiled g p a).count

@@ -2,6 +2,7 @@
 -- A mask of h rows of w slots has slot (u, v) at v * w + u.
 use Rattle.std.specs.Prelude.{cond, List, [], ◌∷◌, ◌++◌, ℕ, zero, suc, ◌+◌, ◌*◌, ◌-◌, eqb, get_or, set}
 use Rattle.mesh.specs.Merge.{upto}
+use Rattle.mesh.specs.declared.claim.Rect.{Rect}
 
 -- the run of x from place p, at most k long
 unfoldable pub run_len : List ℕ → ℕ → ℕ → ℕ → ℕ
@@ -18,14 +19,6 @@ clear_run m p (suc k) = set (clear_run m p k) (p + k) 0
 unfoldable pub clear_rect : List ℕ → ℕ → ℕ → ℕ → ℕ → List ℕ
 clear_rect m w p run zero = m
 clear_rect m w p run (suc j) = clear_run (clear_rect m w p run j) (p + j * w) run
-
--- a rectangle: its lowest slot, its extents along first and second, and what its slots held
-pub record Rect : Type 0 where
-  pub u : ℕ
-  pub v : ℕ
-  pub run : ℕ
-  pub rows : ℕ
-  pub value : ℕ
 
 abbrev pub place : ℕ → ℕ → ℕ → ℕ
 place w u v = v * w + u

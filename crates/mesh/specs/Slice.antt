@@ -1,6 +1,5 @@
 -- Panels claimed one at a time from the mask of a slice, in the order of document 01, 'Panels'.
-use Rattle.std.specs.Prelude.{ℕ, zero, suc, ◌+◌, ◌-◌, ◌*◌, ◌/◌, ◌%◌, ◌<◌, ◌^◌, min, cond, ◌&&◌, List, [], ◌∷◌, leb, ltb, pos, length}
-use Rattle.std.proofs.Math.Option.{Option, none, some}
+use Rattle.std.specs.Prelude.{ℕ, zero, suc, ◌+◌, ◌-◌, ◌*◌, ◌/◌, ◌%◌, ◌<◌, ◌^◌, min, cond, ◌&&◌, List, [], ◌∷◌, leb, ltb, pos, length, Option, Some, None}
 use Rattle.stand.specs.Cells.{cell_of, moved}
 use Rattle.stand.specs.Shape.{point_of}
 use Rattle.stand.specs.Sides.{side_number}
@@ -11,11 +10,11 @@ use Rattle.stand.specs.declared.volume.shape.Point.{Point}
 use Rattle.mesh.specs.Frame.{along_frame}
 use Rattle.mesh.specs.Panels.{face_of}
 use Rattle.mesh.specs.Part.{facing}
-use Rattle.mesh.specs.Scan.{Rect, clear_of, rect_at, run_len}
+use Rattle.mesh.specs.Scan.{clear_of, rect_at, run_len}
+use Rattle.mesh.specs.declared.claim.Rect.{Rect}
 use Rattle.mesh.specs.declared.Quad.{Quad}
 use Rattle.mesh.specs.declared.scan.Frame.{Frame}
 use Rattle.mesh.specs.declared.slice.Claimed.{Claimed}
-use Rattle.mesh.specs.declared.slice.Claimed.TheVariants as C
 use Rattle.mesh.specs.declared.slice.Slice.{Slice}
 
 -- a cell moved by p, saturating at the i32 ends
@@ -46,26 +45,18 @@ rect_from w h m q = rect_at w h m (q % w) (q / w)
 
 -- ---- the call: a panel with the next cursor, or none; and the mask after it
 
-pub record Taken : Type 0 where
-  pub quad : Quad
-  pub next : ℕ
-
 pub record Outcome : Type 0 where
-  pub answer : Option Taken
+  pub answer : Option Claimed
   pub mask : List ℕ
 
-abbrev pub outcome_of : Option Taken → List ℕ → Outcome
+abbrev pub outcome_of : Option Claimed → List ℕ → Outcome
 outcome_of a m = record { answer = a; mask = m }
-
-abbrev pub claimed_answer : Claimed → Option Taken
-claimed_answer (C.Quad q n) = some (record { quad = q; next = n })
-claimed_answer C.None = none
 
 -- place q is claimed
 unfoldable pub claim_from : Slice → List ℕ → ℕ → Outcome
 claim_from s m q =
     outcome_of
-    (some (record { quad = quad_in s (rect_from s.width s.height m q); next = q + 1 }))
+    (Some (record { quad = quad_in s (rect_from s.width s.height m q); next = q + 1 }))
     (clear_of s.width m (rect_from s.width s.height m q))
 
 -- none where the mask has fewer slots than the slice, or only 0 from the cursor on
@@ -73,7 +64,7 @@ unfoldable pub claim_call : Slice → List ℕ → ℕ → Outcome
 claim_call s m from =
     cond (leb (s.height * s.width) (length m) && ltb (first_seen m from (s.height * s.width)) (s.height * s.width))
     (claim_from s m (first_seen m from (s.height * s.width)))
-    (outcome_of none m)
+    (outcome_of None m)
 
 -- ---- claims one after the other, each from the cursor that the last one gave
 
@@ -82,9 +73,9 @@ pub record Claims : Type 0 where
   pub quads : List Quad
 
 -- what an answer and the claims from its cursor on make
-abbrev pub onward : Option Taken → List ℕ → (ℕ → Claims) → Claims
-onward none m on = record { mask = m; quads = [] }
-onward (some t) m on = record { mask = (on t.next).mask; quads = t.quad ∷ (on t.next).quads }
+abbrev pub onward : Option Claimed → List ℕ → (ℕ → Claims) → Claims
+onward None m on = record { mask = m; quads = [] }
+onward (Some t) m on = record { mask = (on t.next).mask; quads = t.quad ∷ (on t.next).quads }
 
 -- until none is left, at most n
 unfoldable pub claims_to : ℕ → Slice → List ℕ → ℕ → Claims
@@ -104,8 +95,8 @@ slice_from f =
 
 -- ---- for the code
 
-pub record PanelPre (u v run rows : ℕ) : Type 0 where
-  pub first : u < 2 ^ 63
-  pub second : v < 2 ^ 63
-  pub wide : run < 2 ^ 63
-  pub high : rows < 2 ^ 63
+pub record PanelPre (r : Rect) : Type 0 where
+  pub first : r.u < 2 ^ 63
+  pub second : r.v < 2 ^ 63
+  pub wide : r.run < 2 ^ 63
+  pub high : r.rows < 2 ^ 63

@@ -1,77 +1,74 @@
 // A side as the tables of six have it, and numbers along its axes.
-ghost use Rattle.std.specs.Prelude.{◌≡◌, ◌<◌};
-ghost use Rattle.stand.specs.Sides.{side_number};
-ghost use Rattle.mesh.specs.Axes.{across, side_of, step_along};
+// Kept: an axis is a number, 0 to 2, as in the tables of six, since the eight numbers of a panel are stored by it (`panel[at + axes.normal]` in scan.rt).
+ghost use Rattle.std.specs.Prelude.{◌≡◌, ◌<◌, pos};
+ghost use Rattle.std.specs.Int.Signed.{lt_z};
+ghost use Rattle.stand.specs.Sides.{axes_at, side_number, way_at};
+ghost use Rattle.mesh.specs.Axes.{across, along};
 ghost use Rattle.mesh.specs.Part.{on_axis};
 
 use stand::volume::shape::Point;
-use stand::{Axes, Face, FaceAnswer, Step};
+use stand::{Axes, Face};
 
 // A side: its number, its axes, and whether its step goes up along the normal.
+// Kept: what the tables of six say of a side, read once: its number, as a panel stores it, and its way; a face in its place would have them read again at each step.
 #[derive(Clone, Copy)]
 pub struct Side {
     pub number: usize,
     pub axes: Axes,
     pub up: bool,
+    pub ghost known: { number < 6 },
+    pub ghost read: { axes ≡ axes_at number },
+    pub ghost way: { up ≡ lt_z (pos 0) (way_at number) },
 }
 
-// A step along axis a.
-fn step_on(s: Step, a: usize) -> i32
-    ensures { result ≡ step_along a s }
+// The one of three values that belongs to axis a.
+pub(crate) fn along<T: Copy>(a: usize, x: T, y: T, z: T) -> T
+    ensures { result ≡ along a x y z }
 {
-    if a == 0 {
-        return s.x;
+    match a {
+        0 => x,
+        1 => y,
+        _ => z,
     }
-    if a == 1 {
-        return s.y;
-    }
-    s.z
 }
 
-// A side, read from the tables. Rules out the axes of another side, and "up" for a step down.
+// A side, read from the tables. Rules out another side, and with it other axes, and "up" for a step down.
+// Kept: a public function keeps its name; a From beside it would be a second name for it.
 pub fn side_of(face: Face) -> Side
-    ensures { result ≡ side_of (side_number face) }
+    ensures { result.number ≡ side_number face }
 {
-    let number = face.number();
     let axes = face.axes();
     let step = face.step();
-    let up = 0 < step_on(step, axes.normal);
-    Side { number, axes, up }
+    Side {
+        number: face.number(),
+        axes,
+        up: 0 < along(axes.normal, step.x, step.y, step.z),
+    }
 }
 
 // The same by its number.
+// Kept: no From, which can require nothing; and not one with sheet's `face_of`, since no open function has a requires.
 pub(crate) fn side_at(number: usize) -> Side
     requires { number < 6 }
-    ensures { result ≡ side_of number }
+    ensures { result.number ≡ number }
 {
-    let FaceAnswer::Is(face) = Face::at(number) else {
-        return side_of(Face::East);
-    };
-    side_of(face)
+    side_of(Face::at(number).unwrap())
 }
 
 // A number along axis a.
 pub(crate) fn on_axis(p: Point, a: usize) -> u64
     ensures { result ≡ on_axis a p }
 {
-    if a == 0 {
-        return p.x;
-    }
-    if a == 1 {
-        return p.y;
-    }
-    p.z
+    along(a, p.x, p.y, p.z)
 }
 
 // k along an axis, u and v along the other two in order. A branch, since it runs for each panel that is claimed.
 pub(crate) fn to_axes(normal: usize, k: u64, u: u64, v: u64) -> Point
     ensures { result ≡ across normal k u v }
 {
-    if normal == 0 {
-        return Point { x: k, y: u, z: v };
+    match normal {
+        0 => Point { x: k, y: u, z: v },
+        1 => Point { x: u, y: k, z: v },
+        _ => Point { x: u, y: v, z: k },
     }
-    if normal == 1 {
-        return Point { x: u, y: k, z: v };
-    }
-    Point { x: u, y: v, z: k }
 }

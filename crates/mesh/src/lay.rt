@@ -1,40 +1,36 @@
 // The visible finishes of one slice of a section, laid into a mask, from which `Slice::claim` takes the panels.
-ghost use Rattle.std.specs.Prelude.{◌≡◌, true, ◌<◌};
-ghost use Rattle.stand.specs.Edit.{look};
-ghost use Rattle.stand.specs.Shape.{shape_of, well_formed};
+ghost use Rattle.std.specs.Prelude.{◌≡◌, ◌≤◌};
+ghost use Rattle.stand.specs.Answer.{answer_of};
 ghost use Rattle.stand.specs.Sides.{side_number};
-ghost use Rattle.mesh.specs.Axes.{Read, side_of};
-ghost use Rattle.mesh.specs.Lay.{SomePart, laid_mask, slice_answer, slice_call, slice_of, sliced_of};
-ghost use Rattle.mesh.specs.Tiles.{MeshIn, part_of};
+ghost use Rattle.mesh.specs.Lay.{laid_mask, slice_call, slice_of, sliced_of};
+ghost use Rattle.mesh.specs.Part.{largest_side};
+ghost use Rattle.mesh.specs.Scene.{look_in, open_in, shape_in};
+ghost use Rattle.mesh.specs.Tiles.{Cleared, part_of};
 ghost use Rattle.mesh.specs.Visible.{empty_beyond};
 
 use crate::Beyond;
-use crate::axes::{Side, on_axis, side_of, to_axes};
-use crate::claim::clear_run;
-use crate::faces::is_empty_beyond;
+use crate::axes::{on_axis, side_of, to_axes};
+use crate::part::check_chunk;
+use crate::scene::{Part, Scene};
 use crate::slice::{Slice, cell_up};
-use crate::tiles::{Part, fill_part, largest, section_part};
+use crate::tiles::{fill_part, largest, section_part};
 use stand::Face;
 use stand::volume::Volume;
-use stand::volume::shape::cells_code;
+use stand::volume::refusal::Refusal;
+use stand::volume::shape::Point;
 
-// The slice laid, or refused.
-#[derive(Clone, Copy)]
-pub enum SliceAnswer {
-    Is(Slice),
-    Refused(u32),
-}
-
-// Where a slice of a part lies.
-fn slice_in(v: Volume, p: Part, face: Face, side: Side, slice: usize) -> Slice
-    requires { SomePart (shape_of v) p × (side ≡ side_of (side_number face)) }
-    ensures { result ≡ slice_of (shape_of v) (part_of (shape_of v) p) face slice }
+// A slice of a part laid over a mask of zeros, and where it lies; past the depth one without slots, at the lowest cell.
+// Kept: `Cleared` is asked here and by each function that fills the mask, since it speaks of a mask lent as `&mut`, which no Copy struct beside it can hold.
+fn lay_slice(mask: &mut [u16], p: Part, face: Face, slice: usize) -> Slice
+    requires { Cleared (largest_side (part_of p)) mask.old }
+    ensures lies { result ≡ slice_of (shape_in p.entry.scene) (part_of p.entry) face slice }
+    ensures laid { mask.new ≡ laid_mask (open_in p.entry.scene) (shape_in p.entry.scene) (look_in p.entry.scene) (part_of p.entry) (side_number face) slice mask.old }
 {
-    let low = p.low;
-    let n = p.count;
-    if on_axis(n, side.axes.normal) <= slice as u64 {
-        let lowest = to_axes(side.axes.normal, 0, 0, 0);
-        let cell = cell_up(low, lowest);
+    let side = side_of(face);
+    // Kept: a name for a field that is read four times below.
+    let axes = side.axes;
+    if on_axis(p.count, axes.normal) <= slice as u64 {
+        let cell = cell_up(p.low, Point { x: 0, y: 0, z: 0 });
         return Slice {
             cell,
             face,
@@ -42,39 +38,17 @@ fn slice_in(v: Volume, p: Part, face: Face, side: Side, slice: usize) -> Slice
             height: 0,
         };
     }
-    let d = to_axes(side.axes.normal, slice as u64, 0, 0);
-    let cell = cell_up(low, d);
-    let width = on_axis(n, side.axes.first);
-    let height = on_axis(n, side.axes.second);
+    fill_part(mask, p, side, slice);
     Slice {
-        cell,
+        cell: cell_up(p.low, to_axes(axes.normal, slice as u64, 0, 0)),
         face,
-        width,
-        height,
+        width: on_axis(p.count, axes.first),
+        height: on_axis(p.count, axes.second),
     }
 }
 
-// A slice of a part over a mask of zeros.
-fn lay_slice(
-    mask: &mut [u16],
-    cells: &[u16],
-    v: Volume,
-    p: Part,
-    side: Side,
-    slice: usize,
-    beyond: bool,
-)
-    requires { (well_formed v ≡ true) × MeshIn (shape_of v) cells.now mask.old p × (side.number < 6) × Read side }
-    ensures { mask.new ≡ laid_mask beyond (shape_of v) (look (shape_of v) cells.now) (part_of (shape_of v) p) side.number slice mask.old }
-{
-    let n = p.count;
-    if on_axis(n, side.axes.normal) <= slice as u64 {
-        return;
-    }
-    let _ = fill_part(mask, cells, v, p, side, slice, beyond);
-}
-
-// Lays a slice of a section into a mask. Rules out finishes that a face does not show, and what an earlier slice left.
+// Lays a slice of a section into a mask; refuses by 3, 4, 7 and 10. Rules out finishes that a face does not show, and what an earlier slice left.
+// Kept: the mask is tested and wiped as in `mesh_part`, four lines; a function for them would be those and a contract for refused and wiped.
 pub fn chunk_slice(
     cells: &[u16],
     v: Volume,
@@ -83,25 +57,16 @@ pub fn chunk_slice(
     slice: usize,
     beyond: Beyond,
     mask: &mut [u16],
-) -> SliceAnswer
-    ensures { sliced_of (slice_answer result) mask.new ≡ slice_call v cells.now chunk face slice (empty_beyond beyond) mask.old }
+) -> Result<Slice, Refusal>
+    ensures { sliced_of (answer_of result) mask.new ≡ slice_call v cells.now chunk face slice (empty_beyond beyond) mask.old }
 {
-    let code = cells_code(v, cells.len());
-    if code != 0 {
-        return SliceAnswer::Refused(code);
-    }
-    if cells.len() / 4096 <= chunk {
-        return SliceAnswer::Refused(7);
-    }
-    let p = section_part(v, chunk);
-    let want = largest(p) as usize;
+    let stand = v.view(cells)?;
+    check_chunk(stand.header, chunk)?;
+    let p = section_part(Scene { stand, beyond }, chunk);
+    let want = largest(p.count) as usize;
     if mask.len() < want {
-        return SliceAnswer::Refused(10);
+        return Err(Refusal::MaskTooShort);
     }
-    clear_run(mask, 0, want);
-    let outside = is_empty_beyond(beyond);
-    let side = side_of(face);
-    lay_slice(mask, cells, v, p, side, slice, outside);
-    let s = slice_in(v, p, face, side, slice);
-    SliceAnswer::Is(s)
+    mask[..want].fill(0);
+    Ok(lay_slice(mask, p, face, slice))
 }

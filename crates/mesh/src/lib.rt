@@ -2,11 +2,11 @@
 #![tactic(auto)]
 
 ghost use Rattle.std.specs.Prelude.{◌≡◌};
-ghost use Rattle.stand.specs.Answer.{number_answer};
+ghost use Rattle.stand.specs.Answer.{answer_of};
 ghost use Rattle.mesh.specs.Quad.{merged_call};
 
 use stand::volume::Extent;
-use stand::volume::answer::NumberAnswer;
+use stand::volume::refusal::Refusal;
 use stand::volume::shape::counts;
 use stand::{Cell, Face, Voxel};
 
@@ -17,13 +17,14 @@ pub mod lay;
 mod part;
 mod plane;
 mod scan;
+mod scene;
 mod sides;
 pub mod slice;
 mod stretch;
 mod tiles;
 
 // What lies outside the stand: document 01's outside rule.
-#[derive(Clone, Copy)]
+#[derive(Clone, Copy, PartialEq, Eq)]
 pub enum Beyond {
     // Outside hides a face.
     Solid,
@@ -43,32 +44,16 @@ pub struct Quad {
 }
 
 impl Quad {
-    // How many faces the panel has. Rules out a product that wraps, and an answer for an extent of 0.
-    pub fn merged(self) -> NumberAnswer
-        ensures { number_answer result ≡ merged_call self.extent }
+    // How many faces the panel has; refuses by 13. Rules out a product that wraps, and an answer for an extent of 0.
+    pub fn merged(self) -> Result<u64, Refusal>
+        ensures { answer_of result ≡ merged_call self.extent }
     {
-        let e = self.extent;
-        let n = counts(e);
-        let x = n.x;
-        let y = n.y;
-        let z = n.z;
-        if x < 1 {
-            return NumberAnswer::Refused(13);
+        let n = counts(self.extent);
+        let faces = (n.x * n.y).saturating_mul(n.z);
+        let most = i32::MAX as u64;
+        if faces == 0 || most < faces {
+            return Err(Refusal::Implausible);
         }
-        if y < 1 {
-            return NumberAnswer::Refused(13);
-        }
-        if z < 1 {
-            return NumberAnswer::Refused(13);
-        }
-        let a = x * y;
-        if 2147483647 < a {
-            return NumberAnswer::Refused(13);
-        }
-        let k = a * z;
-        if 2147483647 < k {
-            return NumberAnswer::Refused(13);
-        }
-        NumberAnswer::Is(k)
+        Ok(faces)
     }
 }

@@ -1,47 +1,54 @@
 // A section of the stand along its axes, and the mask of one of its slices.
-ghost use Rattle.std.specs.Prelude.{◌≡◌, true, false, ◌<◌, ◌≤◌, ◌*◌, ◌-◌, min};
-ghost use Rattle.stand.specs.Shape.{chunk_place, product, sections, shape_of, well_formed};
-ghost use Rattle.mesh.specs.Axes.{Read};
-ghost use Rattle.mesh.specs.Part.{height_of, section_part, width_of};
-ghost use Rattle.mesh.specs.Plane.{Filled};
-ghost use Rattle.mesh.specs.Step.{Follows, SectionIs, SliceIn, SliceOf, grid_of, hop_on, slice_shown, stride_on};
+ghost use Rattle.std.specs.Prelude.{◌≡◌, true, false, ◌<◌, ◌≤◌, ◌+◌, ◌*◌, ◌-◌, min, length, OnOk};
+ghost use Rattle.stand.specs.Answer.{code_of};
+ghost use Rattle.stand.specs.Refusal.{first};
+ghost use Rattle.stand.specs.Shape.{sections, shape_of, Below};
+ghost use Rattle.mesh.specs.Faces.{chunk_rules};
+ghost use Rattle.mesh.specs.Part.{cut_at, depth_of};
+ghost use Rattle.mesh.specs.Scene.{shape_in};
+ghost use Rattle.mesh.specs.Step.{Follows, SliceFilled, SliceIn, grid_of, hop_on, next_outside, part_in, section_cells, stride_on};
+ghost use Rattle.mesh.specs.Visible.{empty_beyond};
 
-use crate::axes::{Side, on_axis};
-use crate::plane::{Grid, fill_outer, fill_plane};
+use crate::Beyond;
+use crate::axes::{Side, along, on_axis};
+use crate::plane::{Grid, Line, fill_plane};
+use crate::scene::{Scene, Section};
+use stand::Axes;
+use stand::volume::CHUNK;
+use stand::volume::formed::Formed;
+use stand::volume::refusal::Refusal;
 use stand::volume::shape::{Point, counts, levels};
-use stand::volume::{CHUNK, Volume};
 
 // Cells in one chunk.
+// Kept: a usize, for indices; `CHUNK_CELLS as usize` is no plainer.
 const CELLS: usize = 4_096;
 
-// A section: the levels of its lowest cell, its cells along each axis that are inside, its place, and the chunks of the stand.
-#[derive(Clone, Copy)]
-pub struct Section {
-    pub low: Point,
-    pub count: Point,
-    pub place: Point,
-    pub chunks: Point,
-}
-
-// What lies one step on from a slice: slice t of section k; outside, where all is empty; or what hides.
+// What lies one step on from a slice: a slice of a section; outside, where all is empty; or what hides.
 #[derive(Clone, Copy)]
 pub enum Next {
-    At(usize, usize),
+    At { chunk: usize, slice: usize },
     Open,
     Shut,
 }
 
+// Whether there is such a section; refuses by 7.
+#[tactic(auto, unfolding(stand::specs::Refusal::first))]
+pub(crate) fn check_chunk(header: Formed, chunk: usize) -> Result<(), Refusal>
+    ensures code { code_of result ≡ first (chunk_rules header.volume chunk) }
+    ensures inside { OnOk result (chunk < sections (shape_of header.volume)) }
+{
+    if header.chunk_total() <= chunk as u64 {
+        return Err(Refusal::NoSuchChunk);
+    }
+    Ok(())
+}
+
 // How far apart the indices of neighbouring cells of a section are along an axis.
-pub(crate) fn stride_on(a: usize) -> usize
+// Kept: here and in `hop_on` an axis is its number, as axes.rt says.
+fn stride_on(a: usize) -> usize
     ensures { result ≡ stride_on a }
 {
-    if a == 0 {
-        return 1;
-    }
-    if a == 1 {
-        return 16;
-    }
-    256
+    along(a, 1, 16, 256)
 }
 
 // The same of neighbouring sections.
@@ -49,146 +56,150 @@ fn hop_on(k: Point, a: usize) -> u64
     requires { k.x * k.y < 4294967296 }
     ensures { result ≡ hop_on k a }
 {
-    if a == 0 {
-        return 1;
-    }
-    if a == 1 {
-        return k.x;
-    }
-    k.x * k.y
+    along(a, 1, k.x, k.x * k.y)
 }
 
 // The cells of a section along an axis, cut short by the size.
 fn cut(size: u64, from: u64) -> u64
     ensures { result ≡ min 16 (size - from) }
 {
-    if size <= from {
-        return 0;
-    }
-    if size - from < CHUNK {
-        return size - from;
-    }
-    CHUNK
+    CHUNK.min(size.saturating_sub(from))
 }
 
-// The place of a section.
-fn place_in(k: Point, chunk: u64) -> Point
-    requires { chunk < product k }
-    ensures { (result ≡ chunk_place k chunk) × (result.x ≤ chunk) × (result.y ≤ chunk) × (result.z ≤ chunk) }
+// The cells along each axis of the section at a corner. Rules out those that the size cuts off.
+#[tactic(auto, unfolding(stand::specs::Shape::shape_of))]
+pub(crate) fn cut_at(header: Formed, corner: Point) -> Point
+    ensures { result ≡ cut_at (shape_of header.volume) corner }
 {
-    let x = chunk % k.x;
-    let y = chunk / k.x % k.y;
-    let z = chunk / k.x / k.y;
-    Point { x, y, z }
+    let n = counts(header.volume.size);
+    Point {
+        x: cut(n.x, corner.x),
+        y: cut(n.y, corner.y),
+        z: cut(n.z, corner.z),
+    }
 }
 
-// Where a section lies. Rules out one that the size does not cut short, and two axes swapped.
-pub(crate) fn section_of(v: Volume, chunk: usize) -> Section
-    requires { (well_formed v ≡ true) × (chunk < sections (shape_of v)) }
-    ensures { SectionIs (shape_of v) chunk result }
+// A section of a stand. Rules out another one's place, and two axes swapped.
+pub(crate) fn section_of(scene: Scene, chunk: usize) -> Section
+    requires { chunk < sections (shape_in scene) }
+    ensures { (result.scene ≡ scene.entry) × (result.chunk ≡ chunk) }
 {
-    let origin = v.origin;
-    let size = v.size;
-    let sections = v.chunks;
-    let o = levels(origin);
-    let n = counts(size);
-    let chunks = counts(sections);
-    let place = place_in(chunks, chunk as u64);
-    let x = place.x * CHUNK;
-    let y = place.y * CHUNK;
-    let z = place.z * CHUNK;
-    let low = Point {
-        x: o.x + x,
-        y: o.y + y,
-        z: o.z + z,
-    };
-    let count = Point {
-        x: cut(n.x, x),
-        y: cut(n.y, y),
-        z: cut(n.z, z),
-    };
+    // Kept: a name for a field that is read four times below.
+    let header = scene.stand.header;
+    let o = levels(header.volume.origin);
+    let corner = header.corner_of(chunk as u32);
     Section {
-        low,
-        count,
-        place,
-        chunks,
+        scene,
+        chunk,
+        low: Point {
+            x: o.x + corner.x,
+            y: o.y + corner.y,
+            z: o.z + corner.z,
+        },
+        count: cut_at(header, corner),
+        place: Point {
+            x: corner.x / CHUNK,
+            y: corner.y / CHUNK,
+            z: corner.z / CHUNK,
+        },
+        chunks: counts(header.volume.chunks),
+    }
+}
+
+// What lies outside the stand. Rules out an outside that shows a face against the rule.
+fn outside(beyond: Beyond) -> Next
+    ensures { result ≡ next_outside (empty_beyond beyond) }
+{
+    match beyond {
+        Beyond::Solid => Next::Shut,
+        Beyond::Empty => Next::Open,
     }
 }
 
 // One step up from a slice.
-fn next_up(v: Volume, c: Section, chunk: usize, side: Side, slice: usize, beyond: bool) -> Next
-    requires { SliceOf (shape_of v) c chunk side.number slice × Read side × (side.up ≡ true) }
-    ensures { Follows (shape_of v) beyond chunk side.number slice result }
+// Kept: two functions: up ends at a section's last slice and at the last level, down at 0; one by a sign would test both. `Follows` is the promise of both and of the one that picks; the slice's bound is asked where section, side and slice meet.
+fn next_up(c: Section, side: Side, slice: usize) -> Next
+    requires { (slice < depth_of (part_in c) side.number) × (side.up ≡ true) }
+    ensures { Follows c.entry side.number slice result }
 {
+    // Kept: a name for a field of a field, read more than twice below.
     let normal = side.axes.normal;
-    let count = c.count;
-    if slice as u64 + 1 < on_axis(count, normal) {
-        return Next::At(chunk, slice + 1);
+    if slice as u64 + 1 < on_axis(c.count, normal) {
+        return Next::At {
+            chunk: c.chunk,
+            slice: slice + 1,
+        };
     }
-    let place = c.place;
-    let chunks = c.chunks;
-    if on_axis(place, normal) + 1 < on_axis(chunks, normal) {
-        return Next::At(chunk + hop_on(chunks, normal) as usize, 0);
+    if on_axis(c.place, normal) + 1 < on_axis(c.chunks, normal) {
+        return Next::At {
+            chunk: c.chunk + hop_on(c.chunks, normal) as usize,
+            slice: 0,
+        };
     }
-    let low = c.low;
-    if on_axis(low, normal) + slice as u64 == 4294967295 {
+    if on_axis(c.low, normal) + slice as u64 == u32::MAX as u64 {
         return Next::Shut;
     }
-    if beyond {
-        return Next::Open;
-    }
-    Next::Shut
+    outside(c.scene.beyond)
 }
 
 // One step down from a slice.
-fn next_down(v: Volume, c: Section, chunk: usize, side: Side, slice: usize, beyond: bool) -> Next
-    requires { SliceOf (shape_of v) c chunk side.number slice × Read side × (side.up ≡ false) }
-    ensures { Follows (shape_of v) beyond chunk side.number slice result }
+fn next_down(c: Section, side: Side, slice: usize) -> Next
+    requires { (slice < depth_of (part_in c) side.number) × (side.up ≡ false) }
+    ensures { Follows c.entry side.number slice result }
 {
     if 0 < slice {
-        return Next::At(chunk, slice - 1);
+        return Next::At {
+            chunk: c.chunk,
+            slice: slice - 1,
+        };
     }
+    // Kept: a name for a field of a field, read more than twice below.
     let normal = side.axes.normal;
-    let place = c.place;
-    if 0 < on_axis(place, normal) {
-        let chunks = c.chunks;
-        return Next::At(chunk - hop_on(chunks, normal) as usize, 15);
+    if 0 < on_axis(c.place, normal) {
+        return Next::At {
+            chunk: c.chunk - hop_on(c.chunks, normal) as usize,
+            slice: 15,
+        };
     }
-    let low = c.low;
-    if on_axis(low, normal) == 0 {
+    if on_axis(c.low, normal) == 0 {
         return Next::Shut;
     }
-    if beyond {
-        return Next::Open;
-    }
-    Next::Shut
+    outside(c.scene.beyond)
 }
 
 // What lies one step on from a slice. Rules out a step that wraps at the ends of i32, and the outside where a section follows.
-fn next_of(v: Volume, c: Section, chunk: usize, side: Side, slice: usize, beyond: bool) -> Next
-    requires { SliceOf (shape_of v) c chunk side.number slice × Read side }
-    ensures { Follows (shape_of v) beyond chunk side.number slice result }
+// Kept: one test of two ways; a closure for each would be the two functions again.
+fn next_of(c: Section, side: Side, slice: usize) -> Next
+    requires { slice < depth_of (part_in c) side.number }
+    ensures { Follows c.entry side.number slice result }
 {
     if side.up {
-        return next_up(v, c, chunk, side, slice, beyond);
+        return next_up(c, side, slice);
     }
-    next_down(v, c, chunk, side, slice, beyond)
+    next_down(c, side, slice)
 }
 
-fn grid_of(count: Point, side: Side) -> Grid
-    ensures { result ≡ grid_of count side.axes }
+fn grid_of(count: Point, axes: Axes) -> Grid
+    ensures { result ≡ grid_of count axes }
 {
-    let normal = stride_on(side.axes.normal);
-    let first = stride_on(side.axes.first);
-    let second = stride_on(side.axes.second);
-    let w = on_axis(count, side.axes.first) as usize;
-    let h = on_axis(count, side.axes.second) as usize;
     Grid {
-        normal,
-        first,
-        second,
-        w,
-        h,
+        normal: stride_on(axes.normal),
+        first: stride_on(axes.first),
+        second: stride_on(axes.second),
+        w: on_axis(count, axes.first) as usize,
+        h: on_axis(count, axes.second) as usize,
+    }
+}
+
+// The cells of slice t of section k.
+fn line_of(cells: &[u16], k: usize, at: usize) -> Line
+    requires { k * 4096 + 4096 ≤ length cells.now }
+    ensures { (result.cells.now ≡ section_cells cells.now k) × (result.at ≡ at) }
+{
+    let from = k * CELLS;
+    Line {
+        cells: &cells[from..from + CELLS],
+        at,
     }
 }
 
@@ -197,36 +208,21 @@ pub(crate) fn fill_slice(
     mask: &mut [u16],
     to: usize,
     pitch: usize,
-    cells: &[u16],
-    v: Volume,
     c: Section,
-    chunk: usize,
     side: Side,
     slice: usize,
-    beyond: bool,
 ) -> u16
-    requires { SliceIn (shape_of v) cells.now mask.old c chunk side.number slice to pitch × Read side }
-    ensures { Filled mask.old mask.new result to pitch (width_of (section_part (shape_of v) chunk) side.number) (height_of (section_part (shape_of v) chunk) side.number) (slice_shown beyond (shape_of v) cells.now chunk side.number slice) }
+    requires { SliceIn mask.old c side.number slice to pitch }
+    ensures { SliceFilled c.entry side.number slice to pitch mask.old mask.new result }
 {
-    let next = next_of(v, c, chunk, side, slice, beyond);
-    let count = c.count;
-    let g = grid_of(count, side);
-    let at = slice * g.normal;
-    let from = chunk * CELLS;
-    let end = from + CELLS;
-    let here = &cells[from..end];
-    match next {
-        Next::At(k, t) => {
-            let start = k * CELLS;
-            let stop = start + CELLS;
-            let there = &cells[start..stop];
-            return fill_plane(mask, to, pitch, here, at, there, t * g.normal, g);
-        }
-        Next::Open => {
-            return fill_outer(mask, to, pitch, here, at, g);
-        }
-        Next::Shut => {
-            return 0;
-        }
-    }
+    // Kept: a name for a field of a field of a field, read twice below.
+    let cells = c.scene.stand.cells;
+    let g = grid_of(c.count, side.axes);
+    let next = match next_of(c, side, slice) {
+        Next::At { chunk, slice } => Some(line_of(cells, chunk, slice * g.normal)),
+        Next::Open => None,
+        Next::Shut => return 0,
+    };
+    let here = line_of(cells, c.chunk, slice * g.normal);
+    fill_plane(mask, to, pitch, g, here, next)
 }

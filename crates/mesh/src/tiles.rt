@@ -1,159 +1,94 @@
 // The part meshed, as a box of sections, and the mask of one of its slices.
-ghost use Rattle.std.specs.Prelude.{◌≡◌, true, ◌<◌, ◌+◌, ◌-◌, ◌*◌, max, min};
-ghost use Rattle.stand.specs.Shape.{Below, max_chunks, section_at, sections, shape_of, well_formed};
-ghost use Rattle.mesh.specs.Axes.{Read};
-ghost use Rattle.mesh.specs.Part.{depth_of, height_of, section_part, whole_part, width_of};
-ghost use Rattle.mesh.specs.Plane.{Filled};
-ghost use Rattle.mesh.specs.Tiles.{BandIn, PartIs, SideIn, TileIn, band_shown, part_of, part_shown, tile_place};
+ghost use Rattle.std.specs.Prelude.{◌≡◌, ◌<◌, ◌+◌, ◌*◌, max};
+ghost use Rattle.stand.specs.Shape.{Below, max_chunks, section_at, sections};
+ghost use Rattle.mesh.specs.Part.{depth_of, section_part, whole_part};
+ghost use Rattle.mesh.specs.Scene.{shape_in};
+ghost use Rattle.mesh.specs.Tiles.{BandFilled, BandIn, Cleared, PartFilled, TileIn, part_of, side_slots, tile_place};
 
 use crate::axes::{Side, on_axis, to_axes};
 use crate::part::{fill_slice, section_of};
-use stand::volume::Volume;
+use crate::scene::{Part, Scene};
 use stand::volume::shape::{Point, counts, levels};
 
-// The levels of its lowest cell, its cells along each axis, the place of its lowest section, its sections along each axis,
-// and the chunks of the stand.
-#[derive(Clone, Copy)]
-pub struct Part {
-    pub low: Point,
-    pub count: Point,
-    pub place: Point,
-    pub across: Point,
-    pub chunks: Point,
-}
-
 // The part of one section.
-pub(crate) fn section_part(v: Volume, chunk: usize) -> Part
-    requires { (well_formed v ≡ true) × (chunk < sections (shape_of v)) }
-    ensures { PartIs (shape_of v) result × (part_of (shape_of v) result ≡ section_part (shape_of v) chunk) }
+// Kept: not one with `whole_part`: but for the scene and the chunks no field is found in the same way.
+pub(crate) fn section_part(scene: Scene, chunk: usize) -> Part
+    requires { chunk < sections (shape_in scene) }
+    ensures { (result.scene ≡ scene.entry) × (part_of result ≡ section_part (shape_in scene.entry) chunk) }
 {
-    let c = section_of(v, chunk);
-    let low = c.low;
-    let count = c.count;
-    let place = c.place;
-    let chunks = c.chunks;
-    let across = Point { x: 1, y: 1, z: 1 };
+    let c = section_of(scene, chunk);
     Part {
-        low,
-        count,
-        place,
-        across,
-        chunks,
+        scene,
+        low: c.low,
+        count: c.count,
+        place: c.place,
+        across: Point { x: 1, y: 1, z: 1 },
+        chunks: c.chunks,
     }
 }
 
 // The part of the whole stand.
-pub(crate) fn whole_part(v: Volume) -> Part
-    requires { well_formed v ≡ true }
-    ensures { PartIs (shape_of v) result × (part_of (shape_of v) result ≡ whole_part (shape_of v)) }
+pub(crate) fn whole_part(scene: Scene) -> Part
+    ensures { (result.scene ≡ scene.entry) × (part_of result ≡ whole_part (shape_in scene.entry)) }
 {
-    let origin = v.origin;
-    let size = v.size;
-    let sections = v.chunks;
-    let low = levels(origin);
-    let count = counts(size);
-    let chunks = counts(sections);
-    let place = Point { x: 0, y: 0, z: 0 };
+    let v = scene.stand.header.volume;
+    let chunks = counts(v.chunks);
     Part {
-        low,
-        count,
-        place,
+        scene,
+        low: levels(v.origin),
+        count: counts(v.size),
+        place: Point { x: 0, y: 0, z: 0 },
         across: chunks,
         chunks,
     }
 }
 
-fn larger(a: u64, b: u64) -> u64
-    ensures { result ≡ max a b }
+// The most slots that a slice of n cells along each axis has.
+pub(crate) fn largest(n: Point) -> u64
+    requires { Below (16 * max_chunks + 1) n }
+    ensures { result ≡ max (n.x * n.y) (max (n.x * n.z) (n.y * n.z)) }
 {
-    if a < b {
-        return b;
-    }
-    a
-}
-
-// The most slots that a slice of a part has.
-pub(crate) fn largest(p: Part) -> u64
-    requires { Below (16 * max_chunks + 1) p.count }
-    ensures { result ≡ max (p.count.x * p.count.y) (max (p.count.x * p.count.z) (p.count.y * p.count.z)) }
-{
-    let n = p.count;
-    let xy = n.x * n.y;
-    let xz = n.x * n.z;
-    let yz = n.y * n.z;
-    larger(xy, larger(xz, yz))
+    (n.x * n.y).max((n.x * n.z).max(n.y * n.z))
 }
 
 // The index of the section at d along the side's normal, a along its first axis, b along its second.
 fn tile_at(p: Part, side: Side, d: u64, a: u64, b: u64) -> usize
-    requires { TileIn p side.number d a b × Read side }
-    ensures { result ≡ section_at p.chunks (tile_place p side.number d a b) }
+    requires { TileIn p side.number d a b }
+    ensures { result ≡ section_at p.entry.chunks (tile_place p.entry side.number d a b) }
 {
-    let k = p.chunks;
-    let place = p.place;
     let t = to_axes(side.axes.normal, d, a, b);
-    let x = place.x + t.x;
-    let y = place.y + t.y;
-    let z = place.z + t.z;
-    let row = z * k.y + y;
-    let chunk = row * k.x + x;
-    chunk as usize
+    let x = p.place.x + t.x;
+    let y = p.place.y + t.y;
+    let z = p.place.z + t.z;
+    let row = z * p.chunks.y + y;
+    (row * p.chunks.x + x) as usize
 }
 
 // The mask of the sections at b along the second axis.
-fn fill_band(
-    mask: &mut [u16],
-    cells: &[u16],
-    v: Volume,
-    p: Part,
-    side: Side,
-    slice: usize,
-    b: usize,
-    beyond: bool,
-) -> u16
-    requires { BandIn (shape_of v) cells.now mask.old p side.number slice b × Read side × (well_formed v ≡ true) }
-    ensures { Filled mask.old mask.new result (b * 16 * width_of (part_of (shape_of v) p) side.number) (width_of (part_of (shape_of v) p) side.number) (width_of (part_of (shape_of v) p) side.number) (min 16 (height_of (part_of (shape_of v) p) side.number - b * 16)) (band_shown beyond (shape_of v) cells.now p side.number slice b) }
+// Kept: a band is a loop over sections and `fill_part` one over bands; one function would hold both loops.
+fn fill_band(mask: &mut [u16], p: Part, side: Side, slice: usize, b: usize) -> u16
+    requires { BandIn mask.old p side.number slice b }
+    ensures { BandFilled p.entry side.number slice b mask.old mask.new result }
 {
-    let count = p.count;
-    let across = p.across;
-    let w = on_axis(count, side.axes.first) as usize;
-    let n = on_axis(across, side.axes.first) as usize;
+    let w = on_axis(p.count, side.axes.first) as usize;
     let to = b * 16 * w;
-    let k = slice % 16;
-    let mut any: u16 = 0;
-    let mut a = 0;
-    while a < n {
+    let mut any = 0;
+    for a in 0..on_axis(p.across, side.axes.first) as usize {
         let chunk = tile_at(p, side, (slice / 16) as u64, a as u64, b as u64);
-        let c = section_of(v, chunk);
-        let at = to + a * 16;
-        let some = fill_slice(mask, at, w, cells, v, c, chunk, side, k, beyond);
-        any = any | some;
-        a += 1;
+        let c = section_of(p.scene, chunk);
+        any |= fill_slice(mask, to + a * 16, w, c, side, slice % 16);
     }
     any
 }
 
 // The mask of one slice: section by section. 0 says that nothing is visible.
-pub(crate) fn fill_part(
-    mask: &mut [u16],
-    cells: &[u16],
-    v: Volume,
-    p: Part,
-    side: Side,
-    slice: usize,
-    beyond: bool,
-) -> u16
-    requires { SideIn (shape_of v) cells.now mask.old p side.number × Read side × (slice < depth_of (part_of (shape_of v) p) side.number) × (well_formed v ≡ true) }
-    ensures { Filled mask.old mask.new result 0 (width_of (part_of (shape_of v) p) side.number) (width_of (part_of (shape_of v) p) side.number) (height_of (part_of (shape_of v) p) side.number) (part_shown beyond (shape_of v) cells.now p side.number slice) }
+pub(crate) fn fill_part(mask: &mut [u16], p: Part, side: Side, slice: usize) -> u16
+    requires { Cleared (side_slots p side.number) mask.old × (slice < depth_of (part_of p) side.number) }
+    ensures { PartFilled p.entry side.number slice mask.old mask.new result }
 {
-    let across = p.across;
-    let n = on_axis(across, side.axes.second) as usize;
-    let mut any: u16 = 0;
-    let mut b = 0;
-    while b < n {
-        let band = fill_band(mask, cells, v, p, side, slice, b, beyond);
-        any = any | band;
-        b += 1;
+    let mut any = 0;
+    for b in 0..on_axis(p.across, side.axes.second) as usize {
+        any |= fill_band(mask, p, side, slice, b);
     }
     any
 }

@@ -1,43 +1,59 @@
--- The fields of a call: each is the line's next word.
-use Rattle.std.specs.Prelude.{cond, List, ℕ, eqb, ℤ}
+-- The fields of a call: each is the line's next word, or three of them.
+use Rattle.std.specs.Prelude.{List, ℕ, ℤ, ok_or, Result, Ok, Err}
+use Rattle.std.specs.Borrow.{Bor}
 use Rattle.stand.specs.declared.Cell.{Cell}
 use Rattle.quote.specs.declared.fault.Fault.{Fault}
 use Rattle.quote.specs.declared.fault.Fault.TheVariants.{MissingNumber}
-use Rattle.quote.specs.declared.fields.Corner as K
-use Rattle.quote.specs.declared.number.Coordinate as C
-use Rattle.quote.specs.declared.number.Amount as A
-use Rattle.quote.specs.declared.words.Word.{Word}
 use Rattle.quote.specs.Number.{amount_of, coordinate_of}
-use Rattle.quote.specs.Words.{word_at}
+use Rattle.quote.specs.Words.{next_word}
 
--- by whether a word is there, and where
-abbrev pub by_word : {R : Type 0} → Word → R → (ℕ → ℕ → R) → R
-by_word w none some = cond (eqb w.from w.to) none (some w.from w.to)
+-- what is read, with the rest of the line; or the fault, which ends the call
+abbrev pub Read : Type 0 → Type 0
+Read A = Result (A × List ℕ) Fault
 
-unfoldable pub amount_at : List ℕ → ℕ → ℕ → A.Amount
-amount_at line at limit = by_word (word_at line at) (A.TheVariants.Bad MissingNumber) (λ from to. amount_of line from to limit)
+-- a reader of the line's front
+abbrev pub Reader : Type 0 → Type 0
+Reader A = List ℕ → Read A
 
-unfoldable pub coordinate_at : List ℕ → ℕ → C.Coordinate
-coordinate_at line at = by_word (word_at line at) (C.TheVariants.Bad MissingNumber) (λ from to. coordinate_of line from to)
+abbrev pub left : {A : Type 0} → Result A Fault → List ℕ → Read A
+left (Ok x) rest = Ok (x, rest)
+left (Err f) rest = Err f
 
--- a fault ends the call; what is read goes on, with the index past it
-module _ {R : Type 0} where
-  abbrev pub with_amount : A.Amount → (Fault → R) → (ℕ → ℕ → R) → R
-  with_amount (A.TheVariants.Is n next) bad then = then n next
-  with_amount (A.TheVariants.Bad f) bad then = bad f
+-- the same of a word that is lent
+abbrev pub lent_left : Result (Bor (List ℕ)) Fault → List ℕ → Read (List ℕ)
+lent_left (Ok x) rest = Ok (x.now, rest)
+lent_left (Err f) rest = Err f
 
-  abbrev pub with_coordinate : C.Coordinate → (Fault → R) → (ℤ → ℕ → R) → R
-  with_coordinate (C.TheVariants.Is x next) bad then = then x next
-  with_coordinate (C.TheVariants.Bad f) bad then = bad f
+abbrev pub go_on : {A B : Type 0} → Read A → (A → Reader B) → Read B
+go_on (Ok (x, rest)) f = f x rest
+go_on (Err e) f = Err e
 
-  abbrev pub with_corner : K.Corner → (Fault → R) → (Cell → ℕ → R) → R
-  with_corner (K.TheVariants.Is c next) bad then = then c next
-  with_corner (K.TheVariants.Bad f) bad then = bad f
+infixl 10 ◌>>=◌
+abbrev pub ◌>>=◌ : {A B : Type 0} → Reader A → (A → Reader B) → Reader B
+(r >>= f) line = go_on (r line) f
 
--- three coordinates
-unfoldable pub corner_at : List ℕ → ℕ → K.Corner
-corner_at line at =
-    with_coordinate (coordinate_at line at) K.TheVariants.Bad (λ x second.
-    with_coordinate (coordinate_at line second) K.TheVariants.Bad (λ y third.
-    with_coordinate (coordinate_at line third) K.TheVariants.Bad (λ z next.
-    K.TheVariants.Is (record { x = x; y = y; z = z }) next)))
+unfoldable pub word : Reader (List ℕ)
+word line = ok_or (next_word line) MissingNumber
+
+unfoldable pub amount : ℕ → Reader ℕ
+amount limit = do
+  w ← word
+  left (amount_of w limit)
+
+abbrev pub finish : Reader ℕ
+finish = amount 65535
+
+abbrev pub cents : Reader ℕ
+cents = amount 4294967295
+
+unfoldable pub coordinate : Reader ℤ
+coordinate = do
+  w ← word
+  left (coordinate_of w)
+
+unfoldable pub cell : Reader Cell
+cell = do
+  x ← coordinate
+  y ← coordinate
+  z ← coordinate
+  left (Ok (record { x = x; y = y; z = z }))

@@ -1,6 +1,6 @@
 -- The definitions that the contracts of `quote` cite.
+pub mod Fault
 pub mod Fields
-pub mod Input
 pub mod Number
 pub mod Parse
 pub mod Verb

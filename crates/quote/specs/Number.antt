@@ -1,50 +1,44 @@
--- Numbers as words: the bytes from `from` to before `to`.
-use Rattle.std.specs.Prelude.{Bool, true, cond, ◌&&◌, List, ℕ, zero, suc, ◌+◌, ◌*◌, ◌-◌, min, eqb, leb, ltb, pos, neg_ℤ, get_or}
+-- Words as numbers.
+use Rattle.std.specs.Prelude.{Bool, cond, not, ◌&&◌, List, [], ◌∷◌, ℕ, ◌+◌, ◌*◌, ◌-◌, ◌^◌, min, eqb, ltb, ℤ, pos, neg_ℤ, length, fold, Option, Some, None, Result, Ok, Err}
+use Rattle.std.specs.Char.{is_ascii_digit}
+use Rattle.std.specs.List.{list_all}
+use Rattle.quote.specs.declared.fault.Fault.{Fault}
 use Rattle.quote.specs.declared.fault.Fault.TheVariants.{NotANumber, NumberTooLarge}
-use Rattle.quote.specs.declared.number.Digits as D
-use Rattle.quote.specs.declared.number.Amount as A
-use Rattle.quote.specs.declared.number.Coordinate as C
 
--- '0' to '9'
-unfoldable pub is_digit : ℕ → Bool
-is_digit b = leb 48 b && leb b 57
+-- one digit or more, and nothing else
+unfoldable pub is_number : List ℕ → Bool
+is_number word = not (eqb (length word) 0) && list_all is_ascii_digit word
 
--- whether the n bytes from i on are digits
-abbrev pub are_digits : List ℕ → ℕ → ℕ → Bool
-are_digits line zero i = true
-are_digits line (suc n) i = is_digit (get_or line i 0) && are_digits line n (suc i)
+-- a number, and one more digit
+abbrev pub add_digit : ℕ → ℕ → ℕ
+add_digit n b = n * 10 + (b - 48)
 
--- the number that they say, after a number a
-abbrev pub horner : List ℕ → ℕ → ℕ → ℕ → ℕ
-horner line zero i a = a
-horner line (suc n) i a = horner line n (suc i) (a * 10 + (get_or line i 0 - 48))
+-- the same, held to the most of a u64
+abbrev pub add_held : ℕ → ℕ → ℕ
+add_held n b = min (min (n * 10) (2 ^ 64 - 1) + (b - 48)) (2 ^ 64 - 1)
 
-unfoldable pub is_number : List ℕ → ℕ → ℕ → Bool
-is_number line from to = ltb from to && are_digits line (to - from) from
+-- the number that digits say
+unfoldable pub value_of : List ℕ → ℕ
+value_of word = fold add_digit 0 word
 
-unfoldable pub value_of : List ℕ → ℕ → ℕ → ℕ
-value_of line from to = horner line (to - from) from 0
-
--- the number, held to 2 ^ 32
-unfoldable pub digits_of : List ℕ → ℕ → ℕ → D.Digits
-digits_of line from to = cond (is_number line from to) (D.TheVariants.Is (min (value_of line from to) 4294967296)) D.TheVariants.Bad
+-- the number, held to the most of a u64
+unfoldable pub digits_of : List ℕ → Option ℕ
+digits_of word = cond (is_number word) (Some (min (value_of word) (2 ^ 64 - 1))) None
 
 -- a number up to a limit: a finish, or cents
-unfoldable pub amount_of : List ℕ → ℕ → ℕ → ℕ → A.Amount
-amount_of line from to limit =
-    cond (is_number line from to)
-    (cond (ltb limit (value_of line from to)) (A.TheVariants.Bad NumberTooLarge) (A.TheVariants.Is (value_of line from to) to))
-    (A.TheVariants.Bad NotANumber)
+unfoldable pub amount_of : List ℕ → ℕ → Result ℕ Fault
+amount_of word limit =
+    cond (is_number word) (cond (ltb limit (value_of word)) (Err NumberTooLarge) (Ok (value_of word))) (Err NotANumber)
 
-abbrev pub below : A.Amount → C.Coordinate
-below (A.TheVariants.Is n next) = C.TheVariants.Is (neg_ℤ (pos n)) next
-below (A.TheVariants.Bad f) = C.TheVariants.Bad f
+abbrev pub below : Result ℕ Fault → Result ℤ Fault
+below (Ok n) = Ok (neg_ℤ (pos n))
+below (Err f) = Err f
 
-abbrev pub above : A.Amount → C.Coordinate
-above (A.TheVariants.Is n next) = C.TheVariants.Is (pos n) next
-above (A.TheVariants.Bad f) = C.TheVariants.Bad f
+abbrev pub above : Result ℕ Fault → Result ℤ Fault
+above (Ok n) = Ok (pos n)
+above (Err f) = Err f
 
 -- an i32: a '-' and up to 2 ^ 31, or up to 2 ^ 31 - 1
-unfoldable pub coordinate_of : List ℕ → ℕ → ℕ → C.Coordinate
-coordinate_of line from to =
-    cond (eqb (get_or line from 0) 45) (below (amount_of line (from + 1) to 2147483648)) (above (amount_of line from to 2147483647))
+unfoldable pub coordinate_of : List ℕ → Result ℤ Fault
+coordinate_of [] = above (amount_of [] 2147483647)
+coordinate_of (b ∷ digits) = cond (eqb b 45) (below (amount_of digits 2147483648)) (above (amount_of (b ∷ digits) 2147483647))

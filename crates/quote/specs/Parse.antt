@@ -1,61 +1,72 @@
 -- A line as a call. Its words are read in order, and the first fault is given.
-use Rattle.std.specs.Prelude.{List, ℕ}
+use Rattle.std.specs.Prelude.{List, ℕ, Option, Some, None, Result, Ok, Err}
 use Rattle.interpreter.specs.declared.Call.{Call}
 use Rattle.interpreter.specs.declared.Call.TheVariants as call
-use Rattle.quote.specs.declared.fault.Fault.TheVariants.{UnknownWord, ExtraWord}
-use Rattle.quote.specs.declared.parse.Parsed.{Parsed}
-use Rattle.quote.specs.declared.parse.Parsed.TheVariants.{Nothing, Is, Bad}
+use Rattle.stand.specs.Extents.{extent_from}
+use Rattle.quote.specs.declared.fault.Fault.{Fault}
+use Rattle.quote.specs.declared.fault.Fault.TheVariants.{ExtraWord}
 use Rattle.quote.specs.declared.verb.Verb.{Verb}
 use Rattle.quote.specs.declared.verb.Verb.TheVariants as verb
-use Rattle.quote.specs.Fields.{by_word, amount_at, corner_at, with_amount, with_corner}
-use Rattle.interpreter.specs.Decode.{size_of}
+use Rattle.quote.specs.Fields.{Read, Reader, left, ◌>>=◌, finish, cents, cell}
 use Rattle.quote.specs.Verb.{verb_of}
-use Rattle.quote.specs.Words.{word_at}
+use Rattle.quote.specs.Words.{next_word}
+
+abbrev pub open_of : Reader Call
+open_of = do
+  origin ← cell
+  size ← cell
+  left (Ok (call.Open origin (extent_from size)))
+
+abbrev pub set_of : Reader Call
+set_of = do
+  c ← cell
+  f ← finish
+  left (Ok (call.Set c f))
+
+abbrev pub fill_of : Reader Call
+fill_of = do
+  a ← cell
+  b ← cell
+  f ← finish
+  left (Ok (call.Fill a b f))
+
+abbrev pub rate_of : Reader Call
+rate_of = do
+  f ← finish
+  n ← cents
+  left (Ok (call.Rate f n))
+
+abbrev pub cut_of : Reader Call
+cut_of = do
+  n ← cents
+  left (Ok (call.Cut n))
+
+-- the fields of a call, by its verb
+abbrev pub call_of : Verb → Reader Call
+call_of verb.Open = open_of
+call_of verb.Set = set_of
+call_of verb.Fill = fill_of
+call_of verb.Refresh = left (Ok call.Refresh)
+call_of verb.Rate = rate_of
+call_of verb.Cut = cut_of
 
 -- a call after whose fields no word is left
-unfoldable pub closed : List ℕ → ℕ → Call → Parsed
-closed line at c = by_word (word_at line at) (Is c) (λ from to. Bad ExtraWord)
+abbrev pub closed : Call → Option (List ℕ × List ℕ) → Result (Option Call) Fault
+closed c None = Ok (Some c)
+closed c (Some w) = Err ExtraWord
 
-module _ (line : List ℕ) (at : ℕ) where
-  unfoldable pub open_of : Parsed
-  open_of =
-      with_corner (corner_at line at) Bad (λ origin second.
-      with_corner (corner_at line second) Bad (λ size next.
-      closed line next (call.Open origin (size_of size))))
+abbrev pub whole : Read Call → Result (Option Call) Fault
+whole (Ok (c, rest)) = closed c (next_word rest)
+whole (Err f) = Err f
 
-  unfoldable pub set_of : Parsed
-  set_of =
-      with_corner (corner_at line at) Bad (λ cell second.
-      with_amount (amount_at line second 65535) Bad (λ finish next.
-      closed line next (call.Set cell finish)))
+abbrev pub named : Result Verb Fault → List ℕ → Result (Option Call) Fault
+named (Ok v) rest = whole (call_of v rest)
+named (Err f) rest = Err f
 
-  unfoldable pub fill_of : Parsed
-  fill_of =
-      with_corner (corner_at line at) Bad (λ a second.
-      with_corner (corner_at line second) Bad (λ b third.
-      with_amount (amount_at line third 65535) Bad (λ finish next.
-      closed line next (call.Fill a b finish))))
+abbrev pub from_word : Option (List ℕ × List ℕ) → Result (Option Call) Fault
+from_word None = Ok None
+from_word (Some (name, rest)) = named (verb_of name) rest
 
-  unfoldable pub rate_of : Parsed
-  rate_of =
-      with_amount (amount_at line at 65535) Bad (λ finish second.
-      with_amount (amount_at line second 4294967295) Bad (λ cents next.
-      closed line next (call.Rate finish cents)))
-
-  unfoldable pub cut_of : Parsed
-  cut_of =
-      with_amount (amount_at line at 4294967295) Bad (λ cents next.
-      closed line next (call.Cut cents))
-
--- the rest of a line, by its first word
-abbrev pub rest_of : Verb → List ℕ → ℕ → Parsed
-rest_of verb.Open line at = open_of line at
-rest_of verb.Set line at = set_of line at
-rest_of verb.Fill line at = fill_of line at
-rest_of verb.Refresh line at = closed line at call.Refresh
-rest_of verb.Rate line at = rate_of line at
-rest_of verb.Cut line at = cut_of line at
-rest_of verb.Other line at = Bad UnknownWord
-
-unfoldable pub parse_of : List ℕ → Parsed
-parse_of line = by_word (word_at line 0) Nothing (λ from to. rest_of (verb_of line from to) line to)
+-- an empty line, or a comment alone, is no call
+unfoldable pub parse_of : List ℕ → Result (Option Call) Fault
+parse_of line = from_word (next_word line)

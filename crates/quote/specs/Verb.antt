@@ -1,33 +1,23 @@
 -- The first word of a line: which call it names.
-use Rattle.std.specs.Prelude.{cond, List, [], ◌∷◌, ℕ}
-use Rattle.quote.specs.Words.{spells}
+use Rattle.std.specs.Prelude.{List, [], ◌∷◌, ℕ, codes, bytes_eq, find, ok_or, Option, Result}
+use Rattle.quote.specs.declared.fault.Fault.{Fault}
+use Rattle.quote.specs.declared.fault.Fault.TheVariants.{UnknownWord}
 use Rattle.quote.specs.declared.verb.Verb.{Verb}
-use Rattle.quote.specs.declared.verb.Verb.TheVariants.{Open, Set, Fill, Refresh, Rate, Cut, Other}
+use Rattle.quote.specs.declared.verb.Verb.TheVariants.{Open, Set, Fill, Refresh, Rate, Cut}
 
--- the names, in ASCII
-abbrev pub word_open : List ℕ
-word_open = 111 ∷ 112 ∷ 101 ∷ 110 ∷ []
+abbrev pub name_of : Verb → List ℕ
+name_of Open = codes "open"
+name_of Set = codes "set"
+name_of Fill = codes "fill"
+name_of Refresh = codes "refresh"
+name_of Rate = codes "rate"
+name_of Cut = codes "cut"
 
-abbrev pub word_set : List ℕ
-word_set = 115 ∷ 101 ∷ 116 ∷ []
+abbrev pub verbs : List Verb
+verbs = Open ∷ Set ∷ Fill ∷ Refresh ∷ Rate ∷ Cut ∷ []
 
-abbrev pub word_fill : List ℕ
-word_fill = 102 ∷ 105 ∷ 108 ∷ 108 ∷ []
+abbrev pub verb_named : List ℕ → Option Verb
+verb_named name = find (λ v. bytes_eq (name_of v) name) verbs
 
-abbrev pub word_refresh : List ℕ
-word_refresh = 114 ∷ 101 ∷ 102 ∷ 114 ∷ 101 ∷ 115 ∷ 104 ∷ []
-
-abbrev pub word_rate : List ℕ
-word_rate = 114 ∷ 97 ∷ 116 ∷ 101 ∷ []
-
-abbrev pub word_cut : List ℕ
-word_cut = 99 ∷ 117 ∷ 116 ∷ []
-
-unfoldable pub verb_of : List ℕ → ℕ → ℕ → Verb
-verb_of line from to =
-    cond (spells line from to word_open) Open
-    (cond (spells line from to word_set) Set
-    (cond (spells line from to word_fill) Fill
-    (cond (spells line from to word_refresh) Refresh
-    (cond (spells line from to word_rate) Rate
-    (cond (spells line from to word_cut) Cut Other)))))
+unfoldable pub verb_of : List ℕ → Result Verb Fault
+verb_of name = ok_or (verb_named name) UnknownWord

@@ -1,6 +1,6 @@
--- The words of a line, a list of bytes, by their places.
-use Rattle.std.specs.Prelude.{Bool, cond, not, ◌&&◌, ◌||◌, List, [], ◌∷◌, ℕ, zero, suc, ◌-◌, eqb, ltb, length, get_or}
-use Rattle.quote.specs.declared.words.Word.{Word}
+-- The words of a line, a list of bytes.
+use Rattle.std.specs.Prelude.{Bool, cond, not, ◌||◌, List, ℕ, eqb, length, take, drop, position, Option, Some, None, unwrap_or, option_and_then}
+use Rattle.std.specs.Borrow.{Bor}
 
 -- space, tab, carriage return
 unfoldable pub is_blank : ℕ → Bool
@@ -10,25 +10,18 @@ is_blank b = eqb b 32 || (eqb b 9 || eqb b 13)
 unfoldable pub is_end : ℕ → Bool
 is_end b = is_blank b || eqb b 35
 
--- the first index from i on whose byte passes a test, of the next n; else the one past them
-abbrev pub first_of : (ℕ → Bool) → List ℕ → ℕ → ℕ → ℕ
-first_of p line zero i = i
-first_of p line (suc n) i = cond (p (get_or line i 0)) i (first_of p line n (suc i))
+-- the word that a list begins with, up to where it ends, and what stands behind it
+abbrev pub cut_at : List ℕ → ℕ → Option (List ℕ × List ℕ)
+cut_at rest n = cond (eqb n 0) None (Some (take n rest, drop n rest))
 
-unfoldable pub first : (ℕ → Bool) → List ℕ → ℕ → ℕ
-first p line i = first_of p line (length line - i) i
+abbrev pub cut_word : List ℕ → Option (List ℕ × List ℕ)
+cut_word rest = cut_at rest (unwrap_or (position is_end rest) (length rest))
 
-abbrev pub skip : List ℕ → ℕ → ℕ
-skip line i = first (λ (b : ℕ). not (is_blank b)) line i
+-- the next word of a line, if there is one, and what stands behind it
+unfoldable pub next_word : List ℕ → Option (List ℕ × List ℕ)
+next_word line = option_and_then (λ from. cut_word (drop from line)) (position (λ b. not (is_blank b)) line)
 
-abbrev pub ending : List ℕ → ℕ → ℕ
-ending line i = first is_end line i
-
--- the next word from i on
-unfoldable pub word_at : List ℕ → ℕ → Word
-word_at line i = record { from = skip line i; to = ending line (skip line i) }
-
--- whether the bytes from `from` to before `to` are these
-unfoldable pub spells : List ℕ → ℕ → ℕ → List ℕ → Bool
-spells line from to [] = eqb from to
-spells line from to (b ∷ bs) = ltb from to && (eqb (get_or line from 0) b && spells line (suc from) to bs)
+-- the same, with the word lent
+abbrev pub lent_word : Option (Bor (List ℕ)) → List ℕ → Option (List ℕ × List ℕ)
+lent_word None rest = None
+lent_word (Some word) rest = Some (word.now, rest)

@@ -1,111 +1,60 @@
 // Numbers as words: decimal digits, before which a coordinate may have a '-'.
-ghost use Rattle.std.specs.Prelude.{◌≡◌, ◌+◌, ◌*◌, ◌-◌, ◌<◌, ◌≤◌, min};
-ghost use Rattle.quote.specs.Number.{is_digit, digits_of, amount_of, below, above, coordinate_of};
+ghost use Rattle.std.specs.Prelude.{◌≡◌, ◌≤◌, IfOk, fold};
+ghost use Rattle.std.specs.Char.{is_ascii_digit};
+ghost use Rattle.std.specs.List.{list_all};
+ghost use Rattle.quote.specs.Number.{add_held, digits_of, amount_of, coordinate_of};
 
 use crate::fault::Fault;
-use crate::words::peek;
-use arith::level::from_level;
 
-// What a word of digits says, held to 2^32, which no place of a call takes.
-#[derive(Clone, Copy)]
-pub(crate) enum Digits {
-    Is(u64),
-    Bad,
-}
-
-// A number, and the index past its word.
-#[derive(Clone, Copy)]
-pub(crate) enum Amount {
-    Is(u64, usize),
-    Bad(Fault),
-}
-
-// The same of a signed one.
-#[derive(Clone, Copy)]
-pub(crate) enum Coordinate {
-    Is(i32, usize),
-    Bad(Fault),
-}
-
-fn is_digit(b: u8) -> bool
-    ensures { result ≡ is_digit b }
+// Whether there are digits alone.
+fn all_digits(word: &[u8]) -> bool
+    ensures { result ≡ list_all is_ascii_digit word.now }
 {
-    if b < b'0' {
-        return false;
-    }
-    b <= b'9'
+    word.iter().all(|b| b.is_ascii_digit())
 }
 
-// One more digit. Rules out a sum that wraps.
-fn add_digit(n: u64, b: u8) -> u64
-    requires { (n ≤ 4294967296) × (48 ≤ b) }
-    ensures { result ≡ min (n * 10 + (b - 48)) 4294967296 }
+// The number that digits say, held to the most of a u64.
+fn value(digits: &[u8]) -> u64
+    ensures { result ≡ fold add_held 0 digits.now }
 {
-    let next = n * 10 + ((b - b'0') as u64);
-    if 4294967296 < next {
-        return 4294967296;
-    }
-    next
+    digits.iter().fold(0u64, |n, b| {
+        n.saturating_mul(10)
+            .saturating_add(u64::from(b.saturating_sub(b'0')))
+    })
 }
 
-fn read_digits(line: &[u8], from: usize, to: usize) -> Digits
-    ensures { result ≡ digits_of line.now from to }
+// The number of a word, held alike; none where the word is no number.
+// Kept: `parse` of the library takes a text, and a '+'; `digits` of `cases` refuses a number of any place too large, where this holds it and the limit refuses.
+#[tactic(auto, unfolding(crate::specs::Number::digits_of, crate::specs::Number::is_number, crate::specs::Number::value_of), using(crate::proofs::Decimal::held))]
+fn read_digits(word: &[u8]) -> Option<u64>
+    ensures { result ≡ digits_of word.now }
 {
-    if to <= from {
-        return Digits::Bad;
+    (!word.is_empty() && all_digits(word)).then(|| value(word))
+}
+
+// A number that its place holds up to a limit. Rules out a number cut down to fit; no place holds the most of a u64.
+#[tactic(auto, unfolding(crate::specs::Number::amount_of, crate::specs::Number::digits_of))]
+pub(crate) fn read_amount(word: &[u8], limit: u32) -> Result<u32, Fault>
+    ensures amount { result ≡ amount_of word.now limit }
+    ensures within { IfOk result (λ n. n ≤ limit) }
+{
+    let n = read_digits(word).ok_or(Fault::NotANumber)?;
+    match u32::try_from(n) {
+        Ok(n) if n <= limit => Ok(n),
+        _ => Err(Fault::NumberTooLarge),
     }
-    let mut n = 0;
-    let mut i = from;
-    while i < to {
-        let b = peek(line, i);
-        if !is_digit(b) {
-            return Digits::Bad;
+}
+
+// A coordinate. Rules out a sign dropped, and an end of i32 refused.
+#[tactic(auto, unfolding(crate::specs::Number::coordinate_of))]
+pub(crate) fn read_coordinate(word: &[u8]) -> Result<i32, Fault>
+    ensures { result ≡ coordinate_of word.now }
+{
+    match word {
+        [b'-', digits @ ..] => {
+            let n = read_amount(digits, i32::MIN.unsigned_abs())?;
+            Ok((-i64::from(n)) as i32)
         }
-        n = add_digit(n, b);
-        i += 1;
+        _ => Ok(read_amount(word, i32::MAX.unsigned_abs())? as i32),
     }
-    Digits::Is(n)
-}
-
-// A number that its place holds up to a limit. Rules out a number cut down to fit.
-pub(crate) fn read_amount(line: &[u8], from: usize, to: usize, limit: u64) -> Amount
-    requires { limit < 4294967296 }
-    ensures { result ≡ amount_of line.now from to limit }
-{
-    let Digits::Is(n) = read_digits(line, from, to) else {
-        return Amount::Bad(Fault::NotANumber);
-    };
-    if limit < n {
-        return Amount::Bad(Fault::NumberTooLarge);
-    }
-    Amount::Is(n, to)
-}
-
-// A coordinate, from behind its '-'.
-fn negative(line: &[u8], from: usize, to: usize) -> Coordinate
-    ensures { result ≡ below (amount_of line.now from to 2147483648) }
-{
-    match read_amount(line, from, to, 2147483648) {
-        Amount::Is(n, next) => Coordinate::Is(from_level(2147483648 - n), next),
-        Amount::Bad(f) => Coordinate::Bad(f),
-    }
-}
-
-fn positive(line: &[u8], from: usize, to: usize) -> Coordinate
-    ensures { result ≡ above (amount_of line.now from to 2147483647) }
-{
-    match read_amount(line, from, to, 2147483647) {
-        Amount::Is(n, next) => Coordinate::Is(from_level(2147483648 + n), next),
-        Amount::Bad(f) => Coordinate::Bad(f),
-    }
-}
-
-// Rules out a sign dropped, and an end of i32 refused.
-pub(crate) fn read_coordinate(line: &[u8], from: usize, to: usize) -> Coordinate
-    ensures { result ≡ coordinate_of line.now from to }
-{
-    if peek(line, from) == b'-' {
-        return negative(line, from + 1, to);
-    }
-    positive(line, from, to)
 }

@@ -1,112 +1,42 @@
 // A line, parsed into a call.
 ghost use Rattle.std.specs.Prelude.{◌≡◌};
-ghost use Rattle.quote.specs.Parse.{closed, open_of, set_of, fill_of, rate_of, cut_of, parse_of};
+ghost use Rattle.quote.specs.Fields.{left};
+ghost use Rattle.quote.specs.Parse.{call_of, parse_of};
 
 use crate::fault::Fault;
-use crate::fields::{Corner, amount_at, corner_at, extent};
-use crate::number::Amount;
-use crate::verb::{Verb, verb_of};
-use crate::words::word_at;
+use crate::verb::Verb;
+use crate::words::Words;
 use interpreter::Call;
+use stand::volume::Extent;
 
-#[derive(Clone, Copy)]
-pub(crate) enum Parsed {
-    // An empty line, or a comment alone.
-    Nothing,
-    Is(Call),
-    Bad(Fault),
-}
-
-// A call after whose fields nothing is left.
-fn close(line: &[u8], at: usize, call: Call) -> Parsed
-    ensures { result ≡ closed line.now at call }
+// The call that a verb and the words after it say. Rules out a call with a field of another.
+fn parse_call(verb: Verb, words: &mut Words) -> Result<Call, Fault>
+    ensures { left result words.new.rest.now ≡ call_of verb words.old.rest.now }
 {
-    let w = word_at(line, at);
-    let from = w.from;
-    let to = w.to;
-    if from == to {
-        return Parsed::Is(call);
-    }
-    Parsed::Bad(Fault::ExtraWord)
-}
-
-fn parse_open(line: &[u8], at: usize) -> Parsed
-    ensures { result ≡ open_of line.now at }
-{
-    match corner_at(line, at) {
-        Corner::Bad(f) => Parsed::Bad(f),
-        Corner::Is(origin, second) => match corner_at(line, second) {
-            Corner::Bad(f) => Parsed::Bad(f),
-            Corner::Is(size, next) => close(line, next, Call::Open(origin, extent(size))),
-        },
+    // Kept: a table of closures by verb would be no plainer than these six lines, each with its own fields.
+    match verb {
+        Verb::Open => Ok(Call::Open(words.cell()?, Extent::from(words.cell()?))),
+        Verb::Set => Ok(Call::Set(words.cell()?, words.finish()?)),
+        Verb::Fill => Ok(Call::Fill(words.cell()?, words.cell()?, words.finish()?)),
+        Verb::Refresh => Ok(Call::Refresh),
+        Verb::Rate => Ok(Call::Rate(words.finish()?, words.cents()?)),
+        Verb::Cut => Ok(Call::Cut(words.cents()?)),
     }
 }
 
-fn parse_set(line: &[u8], at: usize) -> Parsed
-    ensures { result ≡ set_of line.now at }
-{
-    match corner_at(line, at) {
-        Corner::Bad(f) => Parsed::Bad(f),
-        Corner::Is(cell, second) => match amount_at(line, second, 65535) {
-            Amount::Bad(f) => Parsed::Bad(f),
-            Amount::Is(finish, next) => close(line, next, Call::Set(cell, finish as u16)),
-        },
-    }
-}
-
-fn parse_fill(line: &[u8], at: usize) -> Parsed
-    ensures { result ≡ fill_of line.now at }
-{
-    match corner_at(line, at) {
-        Corner::Bad(f) => Parsed::Bad(f),
-        Corner::Is(a, second) => match corner_at(line, second) {
-            Corner::Bad(f) => Parsed::Bad(f),
-            Corner::Is(b, third) => match amount_at(line, third, 65535) {
-                Amount::Bad(f) => Parsed::Bad(f),
-                Amount::Is(finish, next) => close(line, next, Call::Fill(a, b, finish as u16)),
-            },
-        },
-    }
-}
-
-fn parse_rate(line: &[u8], at: usize) -> Parsed
-    ensures { result ≡ rate_of line.now at }
-{
-    match amount_at(line, at, 65535) {
-        Amount::Bad(f) => Parsed::Bad(f),
-        Amount::Is(finish, second) => match amount_at(line, second, 4294967295) {
-            Amount::Bad(f) => Parsed::Bad(f),
-            Amount::Is(cents, next) => close(line, next, Call::Rate(finish as u16, cents as u32)),
-        },
-    }
-}
-
-fn parse_cut(line: &[u8], at: usize) -> Parsed
-    ensures { result ≡ cut_of line.now at }
-{
-    match amount_at(line, at, 4294967295) {
-        Amount::Bad(f) => Parsed::Bad(f),
-        Amount::Is(cents, next) => close(line, next, Call::Cut(cents as u32)),
-    }
-}
-
-// Rules out a call with a field of another, a word left unread, and a fault that is not the line's first.
-pub(crate) fn parse(line: &[u8]) -> Parsed
+// None for an empty line, or a comment alone. Rules out a word left unread, and a fault that is not the line's first.
+#[tactic(auto, unfolding(crate::specs::Parse::parse_of))]
+pub(crate) fn parse(line: &[u8]) -> Result<Option<Call>, Fault>
     ensures { result ≡ parse_of line.now }
 {
-    let w = word_at(line, 0);
-    let from = w.from;
-    let to = w.to;
-    if from == to {
-        return Parsed::Nothing;
-    }
-    match verb_of(line, from, to) {
-        Verb::Open => parse_open(line, to),
-        Verb::Set => parse_set(line, to),
-        Verb::Fill => parse_fill(line, to),
-        Verb::Refresh => close(line, to, Call::Refresh),
-        Verb::Rate => parse_rate(line, to),
-        Verb::Cut => parse_cut(line, to),
-        Verb::Other => Parsed::Bad(Fault::UnknownWord),
+    let mut words = Words { rest: line };
+    let Some(name) = words.next_word() else {
+        return Ok(None);
+    };
+    let verb = Verb::try_from(name)?;
+    let call = parse_call(verb, &mut words)?;
+    match words.next_word() {
+        None => Ok(Some(call)),
+        Some(_) => Err(Fault::ExtraWord),
     }
 }

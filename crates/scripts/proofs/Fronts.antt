@@ -1,16 +1,19 @@
 -- The first sections of the lists: lent and given back, they are the lists again.
-use mathlib.Core.Path.{◌≡◌, sym, ◌∙◌}
+use mathlib.Core.Path.{◌≡◌, subst, sym, ◌∙◌}
 use mathlib.Core.List.{List, ◌++◌}
 use Prim.Native.Nat.{ℕ, ◌*◌, ◌≤◌}
 use native.Mathlib.Omega.{arith}
-use lib.ListN.{drop, length, take-append-drop}
-use lib.Seq.{length_front, length-take-le}
+use lib.ListN.{drop, length, take, take-append-drop}
+use lib.Seq.{length_front, length-take-le, take-append_seam}
 use Rattle.stand.specs.Storage.{Storage, lengths_of, storage_of}
 use Rattle.stand.proofs.Storage.{Fitting}
 use Rattle.interpreter.specs.Run.{back, front}
-use Rattle.interpreter.proofs.Prices as P
 
 -- ---- one list
+
+-- what is left of a part that came back before the others
+pub part_back : (n : ℕ) (xs ys : List ℕ) → length xs ≡ n → take n (xs ++ ys) ≡ xs
+part_back n xs ys e = subst (λ k. take k (xs ++ ys) ≡ xs) e (take-append_seam xs ys)
 
 pub length_back : (n k : ℕ) (xs ys : List ℕ) → length xs ≡ n → n ≤ k → length ys ≡ k → length (xs ++ drop n ys) ≡ k
 length_back n k xs ys e h l = length_front ys xs n (e ∙ sym (length-take-le n ys (omega arith))) ∙ l
@@ -36,11 +39,11 @@ module _ (n : ℕ) (t s : Storage) (f : Fitting n (lengths_of t)) where
   pub front-back : front n (back n t s) ≡ t
   front-back =
       λ i.
-      storage_of (P.back-front (n * 4096) t.cells (drop (n * 4096) s.cells) f.cells i)
-      (P.back-front n t.hashes (drop n s.hashes) f.hashes i)
-      (P.back-front n t.versions (drop n s.versions) f.versions i)
-      (P.back-front n t.log (drop n s.log) f.log i)
-      (P.back-front n t.last (drop n s.last) f.last i)
+      storage_of (part_back (n * 4096) t.cells (drop (n * 4096) s.cells) f.cells i)
+      (part_back n t.hashes (drop n s.hashes) f.hashes i)
+      (part_back n t.versions (drop n s.versions) f.versions i)
+      (part_back n t.log (drop n s.log) f.log i)
+      (part_back n t.last (drop n s.last) f.last i)
 
   pub full_back : n ≤ 4 → Full s → Full (back n t s)
   full_back h u =

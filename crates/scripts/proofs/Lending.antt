@@ -1,9 +1,10 @@
 -- How many sections a call is lent, of the program's lists.
 use mathlib.Core.Path.{◌≡◌, sym, ap, ◌∙◌}
 use mathlib.Core.Bool.{true, false}
-use Prim.Native.Nat.{ℕ, ◌≤◌, ◌<◌}
+use Prim.Native.Nat.{ℕ, ◌*◌, ◌≤◌, ◌<◌}
 use native.Mathlib.Omega.{arith}
-use borrow.Author.Tests.{lt-leb}
+use borrow.Author.Tests.{le-leb, lt-leb}
+use lib.ListN.{length}
 use Rattle.stand.specs.Opening.{header_call, opened_shape, shape_rules}
 use Rattle.stand.specs.Read.{of_header}
 use Rattle.stand.specs.Refusal.{answer, first}
@@ -17,24 +18,22 @@ use Rattle.stand.proofs.Read.{ill_formed, well_formed_lem}
 use Rattle.interpreter.specs.Room.{Lengths, chunks_in, chunks_of, lent_of, room_for, value_of, wanted_of}
 use Rattle.interpreter.specs.Run.{held, lengths_in}
 use Rattle.interpreter.specs.declared.Machine.{Machine}
-use Rattle.interpreter.proofs.Rooms.{lent-all}
 use Rattle.scripts.proofs.Fronts.{Full}
 
 -- ---- of n sections
 
 pub lent-few : (n : ℕ) (s : Storage) → n ≤ 4 → Full s → lent_of n (lengths_in s 12) ≡ n
+unfolding lent_of room_for
 lent-few n s h u =
-    sym
-    (lent-all
-    (record {
-      few = h;
-      cells = omega (arith, u.cells);
-      hashes = omega (arith, u.hashes);
-      versions = omega (arith, u.versions);
-      log = omega (arith, u.log);
-      last = omega (arith, u.last);
-      sheet = omega arith;
-    })).0
+    rw (
+      le-leb _ _ h,
+      le-leb (n * 4096) (length s.cells) (omega (arith, u.cells)),
+      le-leb n (length s.hashes) (omega (arith, u.hashes)),
+      le-leb n (length s.versions) (omega (arith, u.versions)),
+      le-leb n (length s.log) (omega (arith, u.log)),
+      le-leb n (length s.last) (omega (arith, u.last)),
+      le-leb (n * 3) 12 (omega arith),
+    )
 
 pub lent_many : (n : ℕ) (l : Lengths) → 4 < n → lent_of n l ≡ 0
 unfolding lent_of room_for

@@ -1,19 +1,19 @@
 -- A call is decoded from its own bytes.
+use Rattle.std.specs.Prelude.{Some, None}
 use mathlib.Core.Path.{◌≡◌, refl, sym, ap, ◌∙◌, subst}
 use mathlib.Core.Bool.{true, false}
 use mathlib.Core.List.{List}
 use Prim.Native.Nat.{ℕ, ◌+◌, ◌≤◌, ◌<◌, max}
 use native.Mathlib.Omega.{arith}
-use borrow.Author.Tests.{eqb-false, eqb-true, leb-false, leb-true}
+use borrow.Author.Tests.{eqb-false, eqb-true, le-leb, leb-false, leb-true, lt-leb, lt-ltb}
 use lib.Dec.{eqb, leb}
 use lib.ListN.{length, length-take, take}
 use lib.Seq.{get_or-take}
 use Rattle.stand.proofs.Tests.{by-test}
 use Rattle.arith.specs.Bytes.{byte_at, short_at, signed_at, signed_of, word_at}
-use Rattle.interpreter.specs.Decode.{call_of, cell_at, decode_of, extent_at, length_of, size_of}
+use Rattle.stand.specs.Extents.{extent_from}
+use Rattle.interpreter.specs.Decode.{call_of, cell_at, decode_of, extent_at, length_of, whole}
 use Rattle.interpreter.specs.declared.Call.TheVariants as K
-use Rattle.interpreter.specs.declared.decode.Decoded.TheVariants as D
-use Rattle.interpreter.proofs.Decoding.{broken_kind, broken_short, is_whole}
 
 -- ---- lists that agree on the first n bytes
 
@@ -37,7 +37,7 @@ module _ (b c : List ℕ) (n : ℕ) (same : (at : ℕ) → at < n → byte_at b 
 
   extent-same : (at : ℕ) → at + 12 ≤ n → extent_at b at ≡ extent_at c at
   unfolding extent_at
-  extent-same at h = λ i. size_of (cell_same at h i)
+  extent-same at h = λ i. extent_from (cell_same at h i)
 
 -- ---- the call of a kind
 
@@ -88,6 +88,19 @@ module _ (k : ℕ) where
 -- ---- the bytes of a call
 
 module _ (b : List ℕ) where
+  broken_kind : length_of (byte_at b 0) ≡ 0 → decode_of b ≡ None
+  unfolding decode_of whole
+  broken_kind e = rw e
+
+  broken_short : length b < length_of (byte_at b 0) → decode_of b ≡ None
+  unfolding decode_of whole
+  broken_short h = rw (lt-ltb 0 (length_of (byte_at b 0)) (omega arith), lt-leb (length_of (byte_at b 0)) (length b) h)
+
+  is_whole : 0 < length_of (byte_at b 0) → length_of (byte_at b 0) ≤ length b → decode_of b ≡ Some (call_of (byte_at b 0) b)
+  unfolding decode_of whole
+  is_whole p h = rw (lt-ltb 0 (length_of (byte_at b 0)) p, le-leb (length_of (byte_at b 0)) (length b) h)
+
+module _ (b : List ℕ) where
   abbrev size : ℕ
   size = length_of (byte_at b 0)
 
@@ -102,15 +115,15 @@ module _ (b : List ℕ) where
 
   whole_same : 0 < size → size ≤ length b → decode_of own ≡ decode_of b
   whole_same p h =
-      sym (is_whole own (omega (arith, size_same)) (omega (arith, size_same, length-take (max 1 size) b)))
-      ∙ ap D.Is (ap (λ k. call_of k own) kind_same ∙ call_same (byte_at b 0) p own b (λ at l. get_or-take (max 1 size) b at 0 (omega arith)))
-      ∙ is_whole b p h
+      is_whole own (omega (arith, size_same)) (omega (arith, size_same, length-take (max 1 size) b))
+      ∙ ap Some (ap (λ k. call_of k own) kind_same ∙ call_same (byte_at b 0) p own b (λ at l. get_or-take (max 1 size) b at 0 (omega arith)))
+      ∙ sym (is_whole b p h)
 
   short_broken : length b < size → decode_of own ≡ decode_of b
-  short_broken h = sym (broken_short own (omega (arith, size_same, length-take (max 1 size) b))) ∙ broken_short b h
+  short_broken h = broken_short own (omega (arith, size_same, length-take (max 1 size) b)) ∙ sym (broken_short b h)
 
   none_broken : size ≡ 0 → decode_of own ≡ decode_of b
-  none_broken e = sym (broken_kind own (size_same ∙ e)) ∙ broken_kind b e
+  none_broken e = broken_kind own (size_same ∙ e) ∙ sym (broken_kind b e)
 
   pub own-bytes : decode_of own ≡ decode_of b
   own-bytes =

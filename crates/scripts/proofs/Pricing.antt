@@ -23,9 +23,8 @@ use Rattle.ledger.proofs.Shows.{Shows}
 use Rattle.interpreter.specs.Run.{Priced, front, held, measure_call, price_reply, priced, priced_of, refresh_step, refresh_with, terms_in, turn_of}
 use Rattle.interpreter.specs.declared.Machine.{Machine}
 use Rattle.interpreter.specs.declared.Reply.TheVariants as R
-use Rattle.interpreter.proofs.Prices.{back-front}
 use Rattle.scripts.specs.Quotes.{Fair}
-use Rattle.scripts.proofs.Fronts.{Full, length_back}
+use Rattle.scripts.proofs.Fronts.{Full, length_back, part_back}
 use Rattle.scripts.proofs.Lending.{held_none}
 use Rattle.scripts.proofs.Refreshing.{Anew, by_opened, by_refreshed}
 use Rattle.scripts.proofs.Standing.{Standing, Stands, held-is}
@@ -98,7 +97,7 @@ module _ (m : Machine) (s : Storage) (rates mask sheet : List ℕ) (u : Full s) 
                   n_is = w.n_is;
                   few = w.few;
                   tells = w.tells;
-                  shows = λ _. subst (λ (x : List ℕ). Shows terms r.sheet x b) (sym (back-front (w.n * 3) rows (drop (w.n * 3) sheet) rows_are)) a.shows;
+                  shows = λ _. subst (λ (x : List ℕ). Shows terms r.sheet x b) (sym (part_back (w.n * 3) rows (drop (w.n * 3) sheet) rows_are)) a.shows;
                   payable = λ _ i h _. a.priced-all i h;
                 };
             fair = fair_line;

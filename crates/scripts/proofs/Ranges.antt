@@ -1,4 +1,5 @@
 -- What bytes say lies in its type's range.
+use Rattle.std.specs.Prelude.{Some, None, Option}
 use mathlib.Core.Bool.{Bool, true, false, cond}
 use mathlib.Core.List.{List, [], ◌∷◌}
 use Prim.Native.Nat.{ℕ, zero, suc, ◌+◌}
@@ -9,8 +10,6 @@ use Rattle.arith.specs.Bytes.{Bytes, byte_at, signed_at, word_at}
 use Rattle.arith.proofs.bytes.Laws.{signed_fits, word_lt}
 use Rattle.interpreter.specs.Decode.{call_of, cell_at, decode_of, whole}
 use Rattle.interpreter.specs.declared.Call.{Call}
-use Rattle.interpreter.specs.declared.decode.Decoded.{Decoded}
-use Rattle.interpreter.specs.declared.decode.Decoded.TheVariants as D
 use Rattle.scripts.specs.Quotes.{Typed}
 
 -- ---- bytes
@@ -31,9 +30,9 @@ either : (t : Bool) (c d : Call) → Typed c → Typed d → Typed (cond t c d)
 either true c d p q = p
 either false c d p q = q
 
-abbrev pub TypedIn : Decoded → Type 0
-TypedIn (D.Is call) = Typed call
-TypedIn D.Broken = Unit {0}
+abbrev pub TypedIn : Option Call → Type 0
+TypedIn (Some call) = Typed call
+TypedIn None = Unit {0}
 
 call-typed : (kind : ℕ) (b : List ℕ) → Bytes b → Typed (call_of kind b)
 unfolding call_of Typed
@@ -45,6 +44,6 @@ pub decode_typed : (b : List ℕ) → Bytes b → TypedIn (decode_of b)
 unfolding decode_of
 decode_typed b w = by (whole b)
   where
-    by : (t : Bool) → TypedIn (cond t (D.Is (call_of (byte_at b 0) b)) D.Broken)
+    by : (t : Bool) → TypedIn (cond t (Some (call_of (byte_at b 0) b)) None)
     by true = call-typed (byte_at b 0) b w
     by false = tt

@@ -25,7 +25,7 @@ use Rattle.sheet.specs.Card.{Terms, limit}
 use Rattle.sheet.specs.Due.{todo}
 use Rattle.sheet.specs.Row.{priced}
 use Rattle.sheet.specs.declared.Marks.{Marks}
-use Rattle.sheet.proofs.Picks.{length-wiped}
+use Rattle.sheet.proofs.Fewer.{length-wiped}
 use Rattle.sheet.proofs.Pricing.{all_same, section_largest}
 use Rattle.ledger.specs.Book.{Book}
 use Rattle.ledger.specs.Calls.{Four, is_done}

@@ -1,4 +1,5 @@
 -- The program prints what its calls say.
+use Rattle.std.specs.Prelude.{Some, None, Option}
 use mathlib.Core.Path.{◌≡◌, refl, sym, ap, ◌∙◌, subst}
 use mathlib.Core.Bool.{true}
 use mathlib.Core.List.{List, [], ◌∷◌}
@@ -18,8 +19,6 @@ use Rattle.interpreter.specs.declared.Call.{Call}
 use Rattle.interpreter.specs.declared.Call.TheVariants as K
 use Rattle.interpreter.specs.declared.Machine.{Machine}
 use Rattle.interpreter.specs.declared.Reply.TheVariants as R
-use Rattle.interpreter.specs.declared.decode.Decoded.{Decoded}
-use Rattle.interpreter.specs.declared.decode.Decoded.TheVariants as D
 use Rattle.scripts.specs.Page.{Page, blank, page_of, write}
 use Rattle.scripts.specs.Quotes.{AllTyped, Held, Lent, Typed, held_after, run_all}
 use Rattle.scripts.specs.Said.{on_stand, refresh_number, reply_read, reply_to, said, said_then, said_to, refused_or, write_read}
@@ -88,16 +87,16 @@ script_says (suc n) m l p (kind ∷ b) w v = go (decode_of (kind ∷ b)) refl (s
     left : List ℕ
     left = drop (length_of kind) (kind ∷ b)
 
-    go : (d : Decoded) → decode_of (kind ∷ b) ≡ d
+    go : (d : Option Call) → decode_of (kind ∷ b) ≡ d
         → ((m : Machine) (l : Lists) (p : Page) (b : List ℕ) → Ready m l p → Bytes b → printed_to n m l b ≡ said_to n p b)
         → followed (decoded_step m l d) (λ m l. printed_to n m l left) ≡ said_then (reply_read p d) (said_to n (write_read p d) left)
-    go (D.Is call) e more =
+    go (Some call) e more =
         let a = run_step m l call in
         let later = printed_to n a.turn.machine a.lists left in
         (λ i. said_then (call_says m l p w call i) later)
         ∙ ap (said_then (reply_to p call))
         (more a.turn.machine a.lists (write p call) left (call_ready m l p w call (subst TypedIn e (decode_typed (kind ∷ b) v))) (drop-bytes (length_of kind) (kind ∷ b) v))
-    go D.Broken e more = refl
+    go None e more = refl
 
 start-lent : Lent start_lists
 start-lent =

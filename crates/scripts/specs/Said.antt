@@ -1,6 +1,7 @@
 -- What a script prints, by its calls alone: document 01, 'Trial program', 'The book behind the sums' and 'Calls turned back'.
 -- Of the program nothing is read but how bytes make calls, how a reply is written and where a script stops: no header, storage, mark, sheet or mask.
-use Rattle.std.specs.Prelude.{ℕ, zero, suc, Bool, not, ◌||◌, List, [], ◌∷◌, ◌++◌, ltb, drop, length}
+use Rattle.std.specs.Prelude.{ℕ, zero, suc, Bool, not, ◌||◌, List, [], ◌∷◌, ◌++◌, ltb, drop, length, Some, None}
+use Rattle.std.specs.Prelude as C
 use Rattle.std.proofs.Math.Option.{Option, none, some}
 use Rattle.stand.specs.Opening.{opened_shape}
 use Rattle.stand.specs.Refusal.{◌⇒◌, first}
@@ -17,8 +18,6 @@ use Rattle.interpreter.specs.declared.Call.{Call}
 use Rattle.interpreter.specs.declared.Call.TheVariants as K
 use Rattle.interpreter.specs.declared.Reply.{Reply}
 use Rattle.interpreter.specs.declared.Reply.TheVariants as R
-use Rattle.interpreter.specs.declared.decode.Decoded.{Decoded}
-use Rattle.interpreter.specs.declared.decode.Decoded.TheVariants as D
 use Rattle.scripts.specs.Page.{Page, blank, fill_number, open_number, rate_number, set_number, terms_on, write}
 
 -- ---- one call, on the page of those before it
@@ -53,13 +52,13 @@ reply_to p (K.Cut c) = R.Quiet
 -- ---- all of them
 
 -- an unknown kind or a short body is `broken`, and nothing is written down
-abbrev pub reply_read : Page → Decoded → Reply
-reply_read p (D.Is call) = reply_to p call
-reply_read p D.Broken = R.Broken
+abbrev pub reply_read : Page → C.Option Call → Reply
+reply_read p (Some call) = reply_to p call
+reply_read p None = R.Broken
 
-abbrev pub write_read : Page → Decoded → Page
-write_read p (D.Is call) = write p call
-write_read p D.Broken = p
+abbrev pub write_read : Page → C.Option Call → Page
+write_read p (Some call) = write p call
+write_read p None = p
 
 -- a line, and those of the calls after it, unless the script stops there
 abbrev pub said_then : Reply → List ℕ → List ℕ

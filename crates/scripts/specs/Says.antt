@@ -1,5 +1,5 @@
 -- The trial program prints what its calls say: refusals and price lines alike, of every script.
-use Rattle.std.specs.Prelude.{ℕ, ◌≤◌, ◌<◌, max, ◌≡◌, true, List, [], ◌∷◌, eqb, length, take}
+use Rattle.std.specs.Prelude.{ℕ, ◌≤◌, ◌<◌, max, ◌≡◌, true, List, [], ◌∷◌, eqb, length, take, Some}
 use Rattle.std.proofs.Math.Option.{some}
 use Rattle.stand.specs.Shape.{inside}
 use Rattle.stand.specs.declared.Cell.{Cell}
@@ -17,7 +17,6 @@ use Rattle.interpreter.specs.declared.Call.{Call}
 use Rattle.interpreter.specs.declared.Call.TheVariants as K
 use Rattle.interpreter.specs.declared.Reply.{Reply}
 use Rattle.interpreter.specs.declared.Reply.TheVariants as R
-use Rattle.interpreter.specs.declared.decode.Decoded.TheVariants as D
 use Rattle.scripts.specs.Page.{Page, blank, page_of, write}
 use Rattle.scripts.specs.Quotes.{AllTyped, Held, Lent, Typed, run_all}
 use Rattle.scripts.specs.Said.{all_rated, reply_to, said}
@@ -49,7 +48,7 @@ pub record Says : Type 0 where
   -- the program reads no more than a call's own bytes, which decode alike
   pub front : (b : List ℕ) → decode_of (take (max 1 (length_of (byte_at b 0))) b) ≡ decode_of b
   -- the calls of a script are such as `reply` and `Quotes` speak of
-  pub typed : (b : List ℕ) (c : Call) → Bytes b → decode_of b ≡ D.Is c → Typed c
+  pub typed : (b : List ℕ) (c : Call) → Bytes b → decode_of b ≡ Some c → Typed c
   -- any list of calls, and the reply to one more
   pub reply : (l : Lists) (cs : List Call) (c : Call) → Lent l → 256 ≤ length l.mask → AllTyped cs → reply_after l cs c ≡ reply_to (page_of blank cs) c
   -- no other number is ever given: 4 by an opening alone, and 7 to 11 and 13 by no call

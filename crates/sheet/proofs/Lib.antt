@@ -5,13 +5,14 @@ pub mod Calling
 pub mod Checks
 pub mod Codes
 pub mod Example
+pub mod Fewer
 pub mod Gathering
 pub mod Lengths
 pub mod Lines
 pub mod Measuring
 pub mod Passed
 pub mod Picked
-pub mod Picks
+pub mod Picking
 pub mod Places
 pub mod Pricing
 pub mod RowsListed

@@ -6,7 +6,10 @@ pub mod Due
 pub mod Example
 pub mod Gather
 pub mod Picked
+pub mod Picks
 pub mod Row
 pub mod Rows
 pub mod RowsListed
+pub mod Section
+pub mod Since
 pub mod Turn

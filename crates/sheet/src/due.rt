@@ -1,91 +1,68 @@
 // Which chunks a refresh measures: those changed since the mark, and those that share a face with one, each at its turn.
-ghost use Rattle.std.specs.Prelude.{◌≡◌, ◌<◌, ◌≤◌, length};
-ghost use Rattle.stand.specs.Feed.{changed_of};
-ghost use Rattle.stand.specs.Shape.{sections, shape_of};
-ghost use Rattle.sheet.specs.Due.{due_of};
-ghost use Rattle.sheet.specs.Turn.{Followed, given_of, turn_of};
+ghost use Rattle.std.specs.Prelude.{◌≡◌, ◌≤◌};
+ghost use Rattle.std.specs.Iterator.{at_most};
+ghost use Rattle.sheet.specs.Picks.{Given};
+ghost use Rattle.sheet.specs.Since.{count_in, left_in, most_in};
 
-use crate::step::step_to;
-use stand::volume::Volume;
+use crate::picks::Picks;
+use crate::since::Since;
 
-fn wide(x: u32) -> usize
-    ensures { result ≡ x }
-{
-    x as usize
+// The generation whose turn it is, and its next step.
+#[derive(Clone, Copy)]
+pub(crate) struct Due<'a, 'b> {
+    since: Since<'a, 'b>,
+    at: u64,
+    step: usize,
+    ghost from: { since.mark ≤ at },
+    ghost upto: { at ≤ since.header.volume.generation },
+    ghost steps: { step ≤ 7 },
 }
 
-// Chunk c is given by the walk over generations mark + 1 to upto: by its last change, with no walk.
-fn changed(log: &[u32], last: &[u64], mark: u64, upto: u64, c: usize) -> bool
-    requires { (c < length log.now) × (length last.now ≡ length log.now) }
-    ensures { result ≡ changed_of (length log.now) log.now last.now mark upto c }
-{
-    let n = log.len() as u64;
-    let l = last[c];
-    if l <= mark {
-        return false;
+impl<'a, 'b> Due<'a, 'b> {
+    // From the mark on.
+    pub(crate) fn of(since: Since<'a, 'b>) -> Due<'a, 'b>
+        ensures { (result.since ≡ since.entry) × (result.at ≡ since.entry.mark) × (result.step ≡ 0) }
+    {
+        Due {
+            since,
+            at: since.mark,
+            step: 0,
+        }
     }
-    if upto < l {
-        return false;
-    }
-    let slot = ((l - 1) % n) as usize;
-    wide(log[slot]) == c
 }
 
-// Chunk t, or one that shares a face with it, is given by that walk.
-fn due(v: Volume, log: &[u32], last: &[u64], mark: u64, upto: u64, t: usize) -> bool
-    requires { Followed v log.now last.now × (mark ≤ upto) × (t < sections (shape_of v)) }
-    ensures { result ≡ due_of (shape_of v) log.now last.now mark upto t }
-{
-    let n = last.len();
-    let mut s: usize = 0;
-    while s < 7 {
-        let d = step_to(v, n, t, s);
-        if d < n {
-            if changed(log, last, mark, upto, d) {
-                return true;
+impl Iterator for Due<'_, '_> {
+    type Item = usize;
+
+    ghost next_gives = { λ d r e. Given (count_in d.since) (left_in d.since d.at d.step) (left_in e.since e.at e.step) r × (count_in e.since ≡ count_in d.since) };
+
+    ghost remaining = { λ d. at_most (most_in d.since d.at d.step) };
+
+    fn next(&mut self) -> Option<usize> {
+        let upto = self.since.header.volume.generation;
+        // Kept: `while`, since where the walk stands outlives the call.
+        while self.at < upto {
+            if let Some(c) = self.since.given(self.at) {
+                if let Some(pick) = self.since.pick(self.at, c, self.step) {
+                    self.step = pick.next;
+                    return Some(pick.chunk);
+                }
             }
+            self.at += 1;
+            self.step = 0;
         }
-        s += 1;
+        None
     }
-    false
 }
 
-// The chunk that generation j + 1 gives, or the chunk count.
-pub(crate) fn given(log: &[u32], last: &[u64], j: u64) -> usize
-    requires { (1 ≤ length last.now) × (length log.now ≡ length last.now) × (j < 18446744073709551615) }
-    ensures { result ≡ given_of (length last.now) log.now last.now j }
-{
-    let n = last.len();
-    let slot = (j % (n as u64)) as usize;
-    let c = wide(log[slot]);
-    if c < n {
-        if last[c] == j + 1 {
-            return c;
-        }
-    }
-    n
-}
+impl Picks for Due<'_, '_> {
+    ghost count = { λ d. count_in d.since };
 
-// The chunk that step s from c picks at generation j + 1, which gives c: one not due by the generations before; or the chunk count.
-pub(crate) fn turn(
-    v: Volume,
-    log: &[u32],
-    last: &[u64],
-    mark: u64,
-    j: u64,
-    c: usize,
-    s: usize,
-) -> usize
-    requires { Followed v log.now last.now × (mark ≤ j) × (c < sections (shape_of v)) }
-    ensures { result ≡ turn_of (shape_of v) log.now last.now mark j c s }
-{
-    let n = last.len();
-    let t = step_to(v, n, c, s);
-    if n <= t {
-        return n;
-    }
-    if due(v, log, last, mark, j, t) {
-        return n;
-    }
-    t
+    ghost left = { λ d. left_in d.since d.at d.step };
+
+    ghost gives = { λ s r t h. h };
+
+    ghost goes_on = { λ s. tt };
+
+    ghost ends = { λ s. tt };
 }

@@ -1,39 +1,22 @@
 -- Laws of the common part of box and stand: by levels, where there is none, and that it is inside.
-use Rattle.std.proofs.Common.{◌≡◌, ℕ, ◌+◌, ◌-◌, ◌*◌, ◌≤◌, min, max, Bool, true, false, cond, eqb, ℤ, pos, negsuc, ◌+ℤ◌, ◌-ℤ◌, nat_abs, sym, refl, ap, ◌∙◌, mul-zero, zero-mul, arith, w32, SFits, eq-eqb, ne_eqb, eqb-true, leb-false, leb-true}
+use Rattle.std.proofs.Common.{◌≡◌, ℕ, Option, Some, None, ◌+◌, ◌-◌, ◌*◌, ◌≤◌, min, max, Bool, true, false, cond, eqb, ℤ, pos, negsuc, ◌+ℤ◌, ◌-ℤ◌, nat_abs, sym, refl, ap, ◌∙◌, mul-zero, zero-mul, arith, w32, SFits, eq-eqb, ne_eqb, eqb-true, leb-false, leb-true}
 use mathlib.Core.Bool.{false≢true}
-use native.Mathlib.Nat.{min-eq_left, max-eq_right, min_comm, max_comm}
 use lib.Signed.{le_z}
 use Rattle.arith.proofs.Order.{le-other}
 use Rattle.arith.specs.Level.{level_of}
-use Rattle.stand.specs.Fill.{Inside, Spanned, below_at, below_on, below_spot, box_of, cells_in, common_of, high_cell, high_z, low_cell, low_z, past, spanning}
-use Rattle.stand.specs.Shape.{Ranged, Shape, levels_of, point_of, product}
+use Rattle.stand.specs.Fill.{Inside, Spanned, SpannedSome, below_at, below_on, below_spot, box_of, cells_in, common_of, high_cell, high_z, low_cell, low_z, past, spanning}
+use Rattle.stand.specs.Shape.{reach_of, Below, Ranged, Shape, levels_of, point_of, product, shape_of}
+use borrow.Author.Tests.{eqb-false}
+use Rattle.std.proofs.lemmas.Option.{none-some, same_Some}
 use Rattle.stand.specs.declared.Cell.{Cell}
-use Rattle.stand.specs.declared.volume.shape.Common.TheVariants as C
+use Rattle.stand.specs.declared.volume.Volume.{Volume}
+use Rattle.stand.specs.declared.volume.shape.Span.{Span}
+use Rattle.stand.specs.declared.volume.shape.Reach.{Reach}
 use Rattle.stand.specs.declared.volume.shape.Point.{Point}
 use Rattle.stand.specs.declared.volume.shape.Region.{Region}
 use Rattle.stand.proofs.Levels.{below_law, past_law}
 use Rattle.stand.proofs.Shape.{product-some}
-
--- ---- one axis of the common part, by levels
-
-pub below_mono : (o n a b : ℕ) → a ≤ b → below_at o n a ≤ below_at o n (b + 1)
-unfolding below_at
-below_mono o n a b h = omega arith
-
--- the lower coordinate first
-pub span : (o n : ℕ) {p q : ℕ} (a b : ℕ) → a ≤ b → p ≡ below_at o n a → q ≡ below_at o n (b + 1) → Spanned o n a b p (q - p)
-span o n {p} {q} a b h ep eq =
-    record {
-      low-is = rw (min-eq_left h) ep;
-      count-is = rw (max-eq_right h) (ap (λ (m : ℕ). m - p) eq);
-    }
-
--- the order of the corners is free
-pub span_swap : {o n low count : ℕ} (a b : ℕ) → Spanned o n b a low count → Spanned o n a b low count
-span_swap a b s = record {
-  low-is = rw min_comm s.low-is;
-  count-is = rw (max_comm a b) s.count-is;
-}
+use Rattle.stand.proofs.Tests.{by-test}
 
 -- ---- corners ordered
 
@@ -110,65 +93,66 @@ none_not n m l hn hm hl e = omega (arith, product-some n m l (omega arith) (omeg
 -- ---- the common part, or none
 
 module _ (g : Shape) (a b : Cell) where
-  is_none : cells_in (box_of g a b) ≡ 0 → C.None ≡ common_of g a b
+  is_none : cells_in (box_of g a b) ≡ 0 → None ≡ common_of g a b
   unfolding common_of
   is_none e = rw (eq-eqb _ 0 e)
 
-  is_some : (k : Region) → k ≡ box_of g a b → (cells_in (box_of g a b) ≡ 0 → ⊥) → C.Is k ≡ common_of g a b
+  is_some : (k : Region) → k ≡ box_of g a b → (cells_in (box_of g a b) ≡ 0 → ⊥) → Some k ≡ common_of g a b
   unfolding common_of
-  is_some k e h = rw (ne_eqb (cells_in (box_of g a b)) 0 h) (ap C.Is e)
+  is_some k e h = rw (ne_eqb (cells_in (box_of g a b)) 0 h) (ap Some e)
 
-  pub common_none : C.None ≡ common_of g a b → cells_in (box_of g a b) ≡ 0
+  pub common_none : None ≡ common_of g a b → cells_in (box_of g a b) ≡ 0
   unfolding common_of
-  common_none = by (eqb (cells_in (box_of g a b)) 0) refl
-    where
-      by : (t : Bool) → eqb (cells_in (box_of g a b)) 0 ≡ t → C.None ≡ cond t C.None (C.Is (box_of g a b)) → cells_in (box_of g a b) ≡ 0
-      by true p e = eqb-true _ 0 p
-      by false p e = absurd (let z : ◌≡◌ {A = ℕ} 0 1 = cc in omega arith)
+  common_none =
+      by-test (eqb (cells_in (box_of g a b)) 0) (λ p e. eqb-true _ 0 p) (λ p e. absurd (none-some _ (rw p at e)))
 
-  pub common_box : (k : Region) → C.Is k ≡ common_of g a b → k ≡ box_of g a b
+  pub common_box : (k : Region) → Some k ≡ common_of g a b → (k ≡ box_of g a b) × (cells_in k ≡ 0 → ⊥)
   unfolding common_of
-  common_box k = by (eqb (cells_in (box_of g a b)) 0)
-    where
-      by : (t : Bool) → C.Is k ≡ cond t C.None (C.Is (box_of g a b)) → k ≡ box_of g a b
-      by true e = absurd (let z : ◌≡◌ {A = ℕ} 0 1 = cc in omega arith)
-      by false e = cc
+  common_box k =
+      by-test (eqb (cells_in (box_of g a b)) 0) (λ p e. absurd (none-some k (sym (rw p at e))))
+      (λ p e. let q = same_Some _ _ (rw p at e) in (q, λ z. eqb-false _ _ p (sym (ap cells_in q) ∙ z)))
 
 -- by levels, axis after axis
-module _ (g : Shape) (a b : Cell) {o n p q : Point} (ro : Ranged g.origin) (ra : Ranged a) (rb : Ranged b)
-    (eo : o ≡ levels_of g.origin) (en : n ≡ g.size) (ea : p ≡ levels_of a) (eb : q ≡ levels_of b)
-  where
-    on-x : {low count : ℕ} → Spanned o.x n.x p.x q.x low count → (low ≡ (box_of g a b).low.x) × (count ≡ (box_of g a b).count.x)
-    unfolding box_of spanning below_spot past low_cell high_cell
-    on-x = axis_box _ _ _ _ ro.x ra.x rb.x (λ j. (eo j).x) (λ j. (en j).x) (λ j. (ea j).x) (λ j. (eb j).x)
+abbrev Leveled : Point → Cell → Type 0
+Leveled o c = (o ≡ levels_of c) × Below 4294967296 o × Ranged c
 
-    on-y : {low count : ℕ} → Spanned o.y n.y p.y q.y low count → (low ≡ (box_of g a b).low.y) × (count ≡ (box_of g a b).count.y)
-    unfolding box_of spanning below_spot past low_cell high_cell
-    on-y = axis_box _ _ _ _ ro.y ra.y rb.y (λ j. (eo j).y) (λ j. (en j).y) (λ j. (ea j).y) (λ j. (eb j).y)
+module _ (v : Volume) (a b : Cell) {s : Reach} {p q : Point} (e : s ≡ reach_of v) (r : Ranged v.origin) (la : Leveled p a) (lb : Leveled q b) where
+  on-x : {low count : ℕ} → Spanned s.x.low s.x.count p.x q.x low count → (low ≡ (box_of (shape_of v) a b).low.x) × (count ≡ (box_of (shape_of v) a b).count.x)
+  unfolding shape_of box_of spanning below_spot past low_cell high_cell
+  on-x = axis_box _ _ _ _ r.x la.2.x lb.2.x (λ j. (e j).x.low) (λ j. (e j).x.count) (λ j. (la.0 j).x) (λ j. (lb.0 j).x)
 
-    on-z : {low count : ℕ} → Spanned o.z n.z p.z q.z low count → (low ≡ (box_of g a b).low.z) × (count ≡ (box_of g a b).count.z)
-    unfolding box_of spanning below_spot past low_cell high_cell
-    on-z = axis_box _ _ _ _ ro.z ra.z rb.z (λ j. (eo j).z) (λ j. (en j).z) (λ j. (ea j).z) (λ j. (eb j).z)
+  on-y : {low count : ℕ} → Spanned s.y.low s.y.count p.y q.y low count → (low ≡ (box_of (shape_of v) a b).low.y) × (count ≡ (box_of (shape_of v) a b).count.y)
+  unfolding shape_of box_of spanning below_spot past low_cell high_cell
+  on-y = axis_box _ _ _ _ r.y la.2.y lb.2.y (λ j. (e j).y.low) (λ j. (e j).y.count) (λ j. (la.0 j).y) (λ j. (lb.0 j).y)
 
-    pub common_x : {low count : ℕ} → Spanned o.x n.x p.x q.x low count → count ≡ 0 → C.None ≡ common_of g a b
-    unfolding cells_in product
-    common_x s e = is_none g a b (none-x _ _ _ (sym (on-x s).1 ∙ e))
+  on-z : {low count : ℕ} → Spanned s.z.low s.z.count p.z q.z low count → (low ≡ (box_of (shape_of v) a b).low.z) × (count ≡ (box_of (shape_of v) a b).count.z)
+  unfolding shape_of box_of spanning below_spot past low_cell high_cell
+  on-z = axis_box _ _ _ _ r.z la.2.z lb.2.z (λ j. (e j).z.low) (λ j. (e j).z.count) (λ j. (la.0 j).z) (λ j. (lb.0 j).z)
 
-    pub common_y : {low count : ℕ} → Spanned o.y n.y p.y q.y low count → count ≡ 0 → C.None ≡ common_of g a b
-    unfolding cells_in product
-    common_y s e = is_none g a b (none-y _ _ _ (sym (on-y s).1 ∙ e))
+  pub common_x : {r : Option Region} {low : ℕ} → Spanned s.x.low s.x.count p.x q.x low 0 → r ≡ None → r ≡ common_of (shape_of v) a b
+  unfolding cells_in product
+  common_x t q = q ∙ is_none (shape_of v) a b (none-x _ _ _ (sym (on-x t).1))
 
-    pub common_z : {low count : ℕ} → Spanned o.z n.z p.z q.z low count → count ≡ 0 → C.None ≡ common_of g a b
-    unfolding cells_in product
-    common_z s e = is_none g a b (none-z _ _ _ (sym (on-z s).1 ∙ e))
+  pub common_y : {r : Option Region} {low : ℕ} → Spanned s.y.low s.y.count p.y q.y low 0 → r ≡ None → r ≡ common_of (shape_of v) a b
+  unfolding cells_in product
+  common_y t q = q ∙ is_none (shape_of v) a b (none-y _ _ _ (sym (on-y t).1))
 
-    pub common_is : {lx ly lz cx cy cz : ℕ} → Spanned o.x n.x p.x q.x lx cx → Spanned o.y n.y p.y q.y ly cy → Spanned o.z n.z p.z q.z lz cz
-        → (cx ≡ 0 → ⊥) → (cy ≡ 0 → ⊥) → (cz ≡ 0 → ⊥) → C.Is (record { low = point_of lx ly lz; count = point_of cx cy cz }) ≡ common_of g a b
-    unfolding cells_in product
-    common_is x y z hx hy hz =
-        is_some g a b _
-        (λ i. record { low = point_of ((on-x x).0 i) ((on-y y).0 i) ((on-z z).0 i); count = point_of ((on-x x).1 i) ((on-y y).1 i) ((on-z z).1 i) })
-        (none_not _ _ _ (λ e. hx ((on-x x).1 ∙ e)) (λ e. hy ((on-y y).1 ∙ e)) (λ e. hz ((on-z z).1 ∙ e)))
+  pub common_z : {r : Option Region} {low : ℕ} → Spanned s.z.low s.z.count p.z q.z low 0 → r ≡ None → r ≡ common_of (shape_of v) a b
+  unfolding cells_in product
+  common_z t q = q ∙ is_none (shape_of v) a b (none-z _ _ _ (sym (on-z t).1))
+
+  pub common_is : {x y z : Span} → SpannedSome s.x.low s.x.count p.x q.x (Some x) → SpannedSome s.y.low s.y.count p.y q.y (Some y) → SpannedSome s.z.low s.z.count p.z q.z (Some z)
+      → Some (record { low = point_of x.low y.low z.low; count = point_of x.count y.count z.count }) ≡ common_of (shape_of v) a b
+  unfolding cells_in product
+  common_is x y z =
+      let i = on-x x.0 in
+      let j = on-y y.0 in
+      let k = on-z z.0 in
+      is_some (shape_of v) a b _ (λ t. record { low = point_of (i.0 t) (j.0 t) (k.0 t); count = point_of (i.1 t) (j.1 t) (k.1 t) })
+      (none_not _ _ _ (λ e. x.1 (i.1 ∙ e)) (λ e. y.1 (j.1 ∙ e)) (λ e. z.1 (k.1 ∙ e)))
+
+-- one for each return of the code
+pub ruleset box_laws = (common_x, common_y, common_z, common_is)
 
 -- ---- the common part is inside
 

@@ -98,7 +98,7 @@ module _ (s : State) (a b : Cell) (v : ℕ) where
     unfolding cells_in product
     fill-beside h =
         let e = eq-nil_iff_forall_not-mem.1 (λ c m. ∥∥₁_elim m ⊥_prop (λ d. false≢true (sym (h c (box-inside (shape s) a b c d)) ∙ box-between (shape s) a b c d))) in
-        sym (fill-empty s a b v ok fit (box_of (shape s) a b) refl (sym (box-length (shape s) (box_of (shape s) a b)) ∙ ap length e))
+        sym (fill-empty s a b v ok fit (sym (box-length (shape s) (box_of (shape s) a b)) ∙ ap length e))
 
     -- and so does one that misses the stand on one axis or more
     pub fill-misses : misses (shape s) a b ≡ true → fill_call s a b v ≡ outcome_of (gives 0) s

@@ -16,7 +16,7 @@ use Rattle.stand.proofs.Edit.{fitting-lengths}
 use Rattle.stand.proofs.Hash.{Words, folds_append, folds_inj, folds_lt, term_inj, term_lt, term_some}
 use Rattle.stand.proofs.Kept.{Finishes}
 use Rattle.stand.proofs.Opened.{shape_words_lem}
-use Rattle.stand.proofs.Read.{entry_given, entry_high}
+use Rattle.stand.proofs.Read.{entry_given, entry_high, listed}
 use Rattle.stand.proofs.Refusal.{accepted}
 use Rattle.stand.proofs.Shape.{chunk-lt, formed-opens, slot-chunk, slot_lt}
 use Rattle.stand.proofs.Slots.{slot_of_cell}
@@ -74,11 +74,11 @@ module _ (s : State) (q : Sound s) where
   rules_pass = rw (q.formed, eq-eqb (length s.hashes) (sections (shape s) * 1) (omega (arith, hashes-length)))
 
   pub hash_told : (i : ℕ) → i < sections (shape s) → entry_call s.volume s.hashes i ≡ gives (get_or s.hashes i 0)
-  hash_told i l = sym (entry_given s.volume s.hashes i (sym rules_pass) refl (omega (arith, hashes-length)))
+  hash_told i l = sym (entry_given s.volume s.hashes i (listed 1 _ _ refl rules_pass) (omega (arith, hashes-length)))
 
   -- 7 past the last section
   pub hash-none : (i : ℕ) → sections (shape s) ≤ i → entry_call s.volume s.hashes i ≡ refused 7
-  hash-none i l = sym (entry_high s.volume s.hashes i (sym rules_pass) refl (omega (arith, hashes-length)))
+  hash-none i l = sym (entry_high s.volume s.hashes i (listed 1 _ _ refl rules_pass) (omega (arith, hashes-length)))
 
   pub digest_told : digest_call s.volume s.hashes ≡ gives (digest_of s.volume s.hashes)
   unfolding digest_call

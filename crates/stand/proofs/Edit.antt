@@ -1,17 +1,22 @@
 -- Laws of setting a cell: where a change is safe, what it keeps, and what a set comes to by its tests.
-use Rattle.std.proofs.Common.{◌≡◌, ℕ, zero, suc, ◌+◌, ◌*◌, ◌<◌, Bool, true, false, cond, eqb, ◌≢◌, List, ◌++◌, length, get_or, sym, refl, ap, ◌∙◌, arith, length-set, get_or-set_other, get_or-set_same, eq-eqb, ne_eqb, eqb-true}
+use Rattle.std.proofs.Common.{◌≡◌, ℕ, Option, Some, None, zero, suc, ◌+◌, ◌*◌, ◌<◌, Bool, true, false, cond, eqb, ◌≢◌, List, ◌++◌, length, get_or, sym, refl, ap, ◌∙◌, arith, length-set, get_or-set_other, get_or-set_same, eq-eqb, ne_eqb, eqb-true}
 use mathlib.Core.Bool.{and-false, false≢true}
 use borrow.Author.Tests.{eqb-false, not-false}
+use Rattle.std.proofs.lemmas.Option.{cond_some, none-some}
+use Rattle.stand.specs.Answer.{refusal_number}
 use Rattle.stand.specs.Edit.{Edited, Storable, advanced, changed, edited, edited_of, fitting, last_generation, look, put, set_call, set_def, set_refusal}
+use Rattle.stand.specs.Lent.{stand_in, storage_in}
 use Rattle.stand.specs.Refusal.{Rule, first, gives, refused}
 use Rattle.stand.specs.Shape.{Shape, inside, place_of, sections, shape_of, slot, well_formed}
 use Rattle.stand.specs.Storage.{Outcome, State, lengths_of, outcome_of, shape, storage, storage_rules}
 use Rattle.stand.specs.declared.Cell.{Cell}
-use Rattle.stand.specs.declared.volume.shape.Place.TheVariants as P
-use Rattle.stand.proofs.Formed.{placed_at, placed-out}
-use Rattle.stand.proofs.Refusal.{first_part, passes}
+use Rattle.stand.specs.declared.volume.Volume.{Volume}
+use Rattle.stand.specs.declared.volume.refusal.Refusal.{Refusal}
+use Rattle.stand.specs.declared.volume.storage.Storage.{Storage}
+use Rattle.stand.proofs.Refusal.{first_part, passes, some_number}
 use Rattle.stand.proofs.Shape.{formed-opens, sections-few, sections-some, slot_inj, slot_lt}
 use Rattle.stand.proofs.Storage.{Fitting, fits-apart}
+use Rattle.stand.proofs.Tests.{by-test}
 
 -- ---- storage that fits
 
@@ -91,15 +96,6 @@ module _ (s : State) (i v : ℕ) where
 
 -- ---- one cell by its address
 
-module _ (s : State) (c : Cell) (i : ℕ) (ok : well_formed s.volume ≡ true) (at : place_of (shape s) c ≡ P.At i) where
-  pub place-lt : i < sections (shape s) * 4096
-  place-lt =
-      let p = placed_at (shape s) c i at in
-      rw (← p.1) (slot_lt (shape s) c (formed-opens s.volume ok) p.0)
-
-  pub place_storable : fitting s ≡ true → Storable s i
-  place_storable fit = storable s i ok fit place-lt
-
 module _ (s : State) (c : Cell) (v : ℕ) where
   pub set_keeps : {A : Type 0} (f : State → A) → ((i : ℕ) → f (changed s i v) ≡ f s) → f (set_def s c v).state ≡ f s
   unfolding set_def
@@ -151,28 +147,54 @@ module _ (s : State) {n : ℕ} (e : n ≡ first (storage_rules s.volume (lengths
 
 -- ---- what a set comes to, one law for each return of the code
 
-pub set-turned : (s : State) (c : Cell) (v : ℕ) {n : ℕ} → n ≡ first (storage_rules s.volume (lengths_of (storage s))) → (n ≡ 0 → ⊥) → outcome_of (refused n) s ≡ set_call s c v
-unfolding set_call set_refusal fitting
-set-turned s c v e h = storage-turned s e _ _ h
+module _ (v : Volume) (t : Storage) (c : Cell) where
+  pub set_turned : (n : ℕ) (e : Refusal) → refusal_number e ≡ first (storage_rules v (lengths_of (storage_in t))) → outcome_of (refused (refusal_number e)) (stand_in v t) ≡ set_call (stand_in v t) c n
+  unfolding set_call set_refusal fitting
+  set_turned n e d = storage-turned (stand_in v t) d _ _ (some_number e)
 
-module _ (s : State) (c : Cell) (v : ℕ) (ok : well_formed s.volume ≡ true) (fit : fitting s ≡ true) where
-  pub refuse_5 : place_of (shape s) c ≡ P.Outside → outcome_of (refused 5) s ≡ set_call s c v
-  unfolding set_call set_refusal first edited
-  refuse_5 e = rw (ok, fit, placed-out (shape s) c e)
+  -- storage passes, and the cell is looked for
+  module _ (z : 0 ≡ first (storage_rules v (lengths_of (storage_in t)))) {w : Volume} (same : w ≡ v) {p : Option ℕ} (at : p ≡ place_of (shape_of w) c) where
+    passed : (well_formed v ≡ true) × (fitting (stand_in v t) ≡ true)
+    passed = storage-passed (stand_in v t) z refl
 
-  module _ (i : ℕ) (at : place_of (shape s) c ≡ P.At i) where
-    pub unchanged : get_or s.cells i 0 ≡ v → outcome_of (gives 0) s ≡ set_call s c v
-    unfolding set_call set_refusal first edited set_def put look
-    unchanged e = let p = placed_at (shape s) c i at in rw (ok, fit, p.0, p.1, eq-eqb _ _ e, and-false)
+    sought : p ≡ place_of (shape_of v) c
+    sought = at ∙ ap (λ (u : Volume). place_of (shape_of u) c) same
 
-    module _ (other : get_or s.cells i 0 ≡ v → ⊥) where
-      pub refuse_6 : s.volume.generation ≡ last_generation → outcome_of (refused 6) s ≡ set_call s c v
-      unfolding set_call set_refusal first edited look
-      refuse_6 e = let p = placed_at (shape s) c i at in rw (ok, fit, p.0, p.1, ne_eqb _ _ other, eq-eqb _ _ e)
+    outside : p ≡ None → inside (shape_of v) c ≡ false
+    unfolding place_of
+    outside o = by-test (inside (shape_of v) c) (λ i. absurd (none-some _ (sym o ∙ (rw i at sought)))) (λ i. i)
 
-      pub change_at : (s.volume.generation ≡ last_generation → ⊥) → outcome_of (gives 1) (changed s i v) ≡ set_call s c v
-      unfolding set_call set_refusal first edited set_def put look
-      change_at n = let p = placed_at (shape s) c i at in rw (ok, fit, p.0, p.1, ne_eqb _ _ other, ne_eqb _ _ n)
+    pub refuse_5 : (n : ℕ) → p ≡ None → outcome_of (refused 5) (stand_in v t) ≡ set_call (stand_in v t) c n
+    unfolding set_call set_refusal first edited
+    refuse_5 n o = rw (passed.0, passed.1, outside o)
+
+    module _ {i : ℕ} (found : p ≡ Some i) where
+      place : (inside (shape_of v) c ≡ true) × (slot (shape_of v) c ≡ i)
+      unfolding place_of
+      place = cond_some _ _ _ (sym sought ∙ found)
+
+      pub place_storable : Storable (stand_in v t) i
+      place_storable = storable (stand_in v t) i passed.0 passed.1 (rw (← place.1) (slot_lt (shape_of v) c (formed-opens v passed.0) place.0))
+
+      pub place_cell : i < length t.cells.now
+      place_cell = place_storable.cell
+
+      module _ (n : ℕ) where
+        pub unchanged : get_or t.cells.now i 0 ≡ n → outcome_of (gives 0) (stand_in v t) ≡ set_call (stand_in v t) c n
+        unfolding set_call set_refusal first edited set_def put look
+        unchanged e = rw (passed.0, passed.1, place.0, place.1, eq-eqb _ _ e, and-false)
+
+        module _ (other : get_or t.cells.now i 0 ≡ n → ⊥) where
+          pub refuse_6 : v.generation ≡ last_generation → outcome_of (refused 6) (stand_in v t) ≡ set_call (stand_in v t) c n
+          unfolding set_call set_refusal first edited look
+          refuse_6 e = rw (passed.0, passed.1, place.0, place.1, ne_eqb _ _ other, eq-eqb _ _ e)
+
+          pub change_at : {s : State} → (v.generation ≡ last_generation → ⊥) → s ≡ changed (stand_in v t) i n → outcome_of (gives 1) s ≡ set_call (stand_in v t) c n
+          unfolding set_call set_refusal first edited set_def put look
+          change_at m d = rw (passed.0, passed.1, place.0, place.1, ne_eqb _ _ other, ne_eqb _ _ m) (ap (outcome_of (gives 1)) d)
+
+-- one for each goal of the code
+pub ruleset set_laws = (set_turned, refuse_5, place_cell, unchanged, refuse_6, change_at)
 
 -- ---- calls that edit
 
@@ -185,7 +207,7 @@ unfolding edited
 by_edited Q zero s e n y = y refl
 by_edited Q (suc k) s e n y = n k refl
 
--- a set that nothing turns back
+-- a set that nothing refuses
 pub record Settable (formed fits : Bool) (g : Shape) (generation old : ℕ) (c : Cell) (v : ℕ) : Type 0 where
   pub fits-is : fits ≡ true
   pub inside_is : inside g c ≡ true

@@ -1,5 +1,5 @@
 -- Laws of the changes since a mark: refusals, one turn of the search, and the walk by its steps.
-use Rattle.std.proofs.Common.{◌≡◌, ℕ, zero, suc, ◌+◌, ◌-◌, ◌<◌, ◌≤◌, true, false, ◌&&◌, eqb, ltb, leb, List, [], ◌∷◌, length, get_or, sym, refl, ap, ◌∙◌, ⊎_elim, arith, ltb-false, ltb-true, le-ltb, lt-ltb, eq-eqb, ne_eqb, eqb-true, le-leb, leb-true}
+use Rattle.std.proofs.Common.{◌≡◌, ℕ, zero, suc, ◌+◌, ◌-◌, ◌<◌, ◌≤◌, true, false, ◌&&◌, eqb, ltb, leb, List, [], ◌∷◌, length, get_or, sym, refl, ap, ◌∙◌, ⊎_elim, arith, ltb-false, ltb-true, le-ltb, lt-ltb, eq-eqb, eqb-true, le-leb, leb-true}
 use mathlib.Core.List.Memᴰ
 use mathlib.Core.List.{Memᴰ}
 use borrow.Author.Tests.{eqb-false, not-false}
@@ -11,38 +11,16 @@ use Rattle.stand.proofs.Refusal.{passes}
 use Rattle.stand.proofs.Shape.{formed-opens, sections-some}
 use Rattle.stand.proofs.Tests.{both, by-test, refuted}
 
--- ---- refusals, a law for each return
+-- ---- refusals
 
-module _ (v : Volume) (log last mark : ℕ) where
-  pub no_header : well_formed v ≡ false → feed_refusal v log last mark ≡ 3
-  unfolding feed_refusal first
-  no_header e = rw e
+-- where none applies
+pub in_reach : (v : Volume) (log last mark : ℕ) → well_formed v ≡ true → (n : ℕ) → n ≡ sections (shape_of v) → log ≡ n → last ≡ n → mark ≤ v.generation → v.generation - mark ≤ n
+    → feed_refusal v log last mark ≡ 0
+unfolding feed_refusal first
+in_reach v log last mark ok n is p q r h =
+    rw (ok, ← is, eq-eqb log n p, eq-eqb last n q, le-ltb v.generation mark r, le-ltb n (v.generation - mark) h)
 
-  module _ (ok : well_formed v ≡ true) (n : ℕ) (is : n ≡ sections (shape_of v)) where
-    pub no_log : (log ≡ n → ⊥) → feed_refusal v log last mark ≡ 4
-    unfolding feed_refusal first
-    no_log h = rw (ok, ← is, ne_eqb log n h)
-
-    module _ (p : log ≡ n) where
-      pub no_last : (last ≡ n → ⊥) → feed_refusal v log last mark ≡ 4
-      unfolding feed_refusal first
-      no_last h = rw (ok, ← is, eq-eqb log n p, ne_eqb last n h)
-
-      module _ (q : last ≡ n) where
-        pub ahead : v.generation < mark → feed_refusal v log last mark ≡ 8
-        unfolding feed_refusal first
-        ahead h = rw (ok, ← is, eq-eqb log n p, eq-eqb last n q, lt-ltb v.generation mark h)
-
-        module _ (r : mark ≤ v.generation) where
-          pub late : n < v.generation - mark → feed_refusal v log last mark ≡ 9
-          unfolding feed_refusal first
-          late h = rw (ok, ← is, eq-eqb log n p, eq-eqb last n q, le-ltb v.generation mark r, lt-ltb n (v.generation - mark) h)
-
-          pub in_reach : v.generation - mark ≤ n → feed_refusal v log last mark ≡ 0
-          unfolding feed_refusal first
-          in_reach h = rw (ok, ← is, eq-eqb log n p, eq-eqb last n q, le-ltb v.generation mark r, le-ltb n (v.generation - mark) h)
-
--- what is known where none applies
+-- what is known there
 pub record Fed (v : Volume) (log last mark : ℕ) : Type 0 where
   pub formed : well_formed v ≡ true
   pub log_is : log ≡ sections (shape_of v)

@@ -1,59 +1,30 @@
 -- A header's test, its counts and a cell's place, by the code's steps.
-use Rattle.std.proofs.Common.{◌≡◌, ℕ, zero, suc, ◌+◌, ◌-◌, ◌*◌, ◌/◌, ◌%◌, ◌<◌, ◌≤◌, Bool, true, false, ◌&&◌, eqb, ltb, leb, ℤ, ◌-ℤ◌, nat_abs, sym, refl, ap, ◌∙◌, subst, ⊎_elim, le_trans, lt_of_lt_of_le, mul_assoc, mul_comm, eq-zero-or-pos, mul-zero, zero-mul, div-le_self, le-mul_of_pos_right, mul_left_comm, arith, w32, SFits, le-ltb, lt-ltb, eqb-true, le-leb, leb-false, leb-true}
+use Rattle.std.proofs.Common.{◌≡◌, ℕ, zero, suc, ◌+◌, ◌-◌, ◌*◌, ◌/◌, ◌%◌, ◌<◌, ◌≤◌, Bool, true, false, cond, ◌&&◌, Option, Some, None, ltb, leb, ℤ, pos, negsuc, ◌-ℤ◌, nat_abs, sym, refl, ap, ◌∙◌, subst, ⊎_elim, le_trans, mul_assoc, mul_comm, eq-zero-or-pos, mul-zero, zero-mul, div-le_self, le-mul_of_pos_right, mul_left_comm, arith, w32, SFits, leb-false, leb-true}
 use native.Mathlib.Nat.{mod-le}
-use borrow.Author.Tests.{lt-leb}
 use lib.Arith.{digits_lt}
 use Rattle.arith.specs.Level.{count_of, level_of}
-use Rattle.stand.specs.Shape.{Ranged, Shape, Stored, along_at, axis_at, axis_good, chunks_on, counted, counts_of, distance, good, inside, inside_on, levels_of, max_chunks, opens, place_of, product, sections, shape_of, slot, slot_at, spot_of, well_formed}
+use Rattle.stand.specs.Shape.{Below, Ranged, Shape, Sized, Stored, along_at, axis_at, axis_good, chunks_in, counted, counts_of, distance, good, inside, inside_on, levels_of, max_chunks, opens, place_of, point_of, product, sections, shape_of, slot, slot_at, reach_of, spot_of, well_formed}
 use Rattle.stand.specs.declared.Cell.{Cell}
+use Rattle.stand.specs.declared.volume.Extent.{Extent}
 use Rattle.stand.specs.declared.volume.Volume.{Volume}
-use Rattle.stand.specs.declared.volume.shape.Along.TheVariants as A
-use Rattle.stand.specs.declared.volume.shape.Place.TheVariants as P
 use Rattle.stand.specs.declared.volume.shape.Point.{Point}
-use Rattle.stand.specs.declared.volume.shape.Spot.TheVariants as S
+use Rattle.stand.specs.declared.volume.shape.Reach.{Reach}
 use Rattle.stand.proofs.Levels.{axis_law, on-distance, on-high, on-low}
-use Rattle.stand.proofs.Shape.{chunks-some, formed-counts, formed-opens, inside-within, sections-few, sections-some, stored}
-use Rattle.stand.proofs.Tests.{both}
+use Rattle.stand.proofs.Shape.{chunks-some, formed-counts, formed-opens, goods, inside-within, sections-few, sections-some, slot-chunk, slot_lt, stored}
 
 -- ---- a header, by levels
 
-module _ (v : Volume) {o n k : Point} (r : Ranged v.origin) (eo : o ≡ levels_of v.origin) (en : n ≡ counts_of v.size) (ek : k ≡ counts_of v.chunks) where
+module _ (v : Volume) {s : Reach} {k : Point} (r : Ranged v.origin) (e : s ≡ reach_of v) (ek : k ≡ counts_of v.chunks) where
   on : (a : ℤ) {b m l : ℕ} (s t : ℤ) → SFits w32 a → b ≡ level_of a → m ≡ count_of s → l ≡ count_of t → axis_good a (count_of s) (count_of t) ≡ axis_at b m l
   on a s t f p q u = axis_law a (count_of s) (count_of t) f ∙ (λ i. axis_at (sym p i) (sym q i) (sym u i))
 
-  pub formed_law : well_formed v ≡ (axis_at o.x n.x k.x && (axis_at o.y n.y k.y && (axis_at o.z n.z k.z && leb (k.x * k.y * k.z) max_chunks)))
-  unfolding well_formed good product
+  pub formed_law : well_formed v ≡ (axis_at s.x.low s.x.count k.x && (axis_at s.y.low s.y.count k.y && (axis_at s.z.low s.z.count k.z && leb (product k) max_chunks)))
+  unfolding well_formed good
   formed_law =
-      let x = on v.origin.x v.size.x v.chunks.x r.x (λ i. (eo i).x) (λ i. (en i).x) (λ i. (ek i).x) in
-      let y = on v.origin.y v.size.y v.chunks.y r.y (λ i. (eo i).y) (λ i. (en i).y) (λ i. (ek i).y) in
-      let z = on v.origin.z v.size.z v.chunks.z r.z (λ i. (eo i).z) (λ i. (en i).z) (λ i. (ek i).z) in
-      λ i. x i && (y i && (z i && leb ((sym ek i).x * (sym ek i).y * (sym ek i).z) max_chunks))
-
--- the sections of an axis that passes are at least 1
-pub axis_some : (o n k : ℕ) → axis_at o n k ≡ true → 1 ≤ k
-unfolding axis_at
-axis_some o n k e =
-    let p = both (leb 1 n) _ e in
-    let q = both (leb (o + n) 4294967296) (eqb k (chunks_on n)) p.1 in
-    let s = chunks-some n (leb-true 1 n p.0) in
-    let t : k ≡ chunks_on n = eqb-true k (chunks_on n) q.1 in
-    omega arith
-
-pub axis_none : (o n k : ℕ) → n < 1 → false ≡ axis_at o n k
-unfolding axis_at
-axis_none o n k h = rw (lt-leb 1 n h)
-
-pub axis_past : (o n k : ℕ) → 1 ≤ n → 4294967296 < o + n → false ≡ axis_at o n k
-unfolding axis_at
-axis_past o n k s h = rw (le-leb 1 n s, lt-leb (o + n) 4294967296 h)
-
-pub axis_count : (o n k : ℕ) {m : ℕ} → 1 ≤ n → o + n ≤ 4294967296 → m ≡ chunks_on n → eqb k m ≡ axis_at o n k
-unfolding axis_at
-axis_count o n k s h e = rw (e, le-leb 1 n s, le-leb (o + n) 4294967296 h)
-
--- a product that is past the limit at two factors is so at three
-pub past_two : (a d : ℕ) → 1 ≤ d → max_chunks < a → max_chunks < a * d
-past_two a d s h = lt_of_lt_of_le h (le-mul_of_pos_right a s)
+      let x = on v.origin.x v.size.x v.chunks.x r.x (λ i. (e i).x.low) (λ i. (e i).x.count) (λ i. (ek i).x) in
+      let y = on v.origin.y v.size.y v.chunks.y r.y (λ i. (e i).y.low) (λ i. (e i).y.count) (λ i. (ek i).y) in
+      let z = on v.origin.z v.size.z v.chunks.z r.z (λ i. (e i).z.low) (λ i. (e i).z.count) (λ i. (ek i).z) in
+      λ i. x i && (y i && (z i && leb (product (sym ek i)) max_chunks))
 
 -- ---- counts of a header that passes
 
@@ -81,65 +52,82 @@ counted_law v {k} ok e =
     factor a zero h = absurd (omega (arith, mul-zero a))
     factor a (suc d) h = omega arith
 
+-- sizes and chunk counts of a header that passes
+module _ (v : Volume) (ok : well_formed v ≡ true) where
+  pub reach_some : {s : Reach} → s ≡ reach_of v → (1 ≤ s.x.count) × (1 ≤ s.y.count) × (1 ≤ s.z.count)
+  unfolding well_formed
+  reach_some e =
+      let g = goods _ _ _ ok in
+      rw e (g.x.some, g.y.some, g.z.some)
+
+  pub sided : {k : Point} → k ≡ counts_of v.chunks → Below 2147483648 k → Sized k
+  unfolding counted chunks_in shape_of well_formed
+  sided e b =
+      let g = goods _ _ _ ok in
+      let p = e ∙ formed-counts v ok in
+      record {
+        low_x = omega (arith, ap (λ (q : Point). q.x) p, chunks-some _ g.x.some);
+        low-y = omega (arith, ap (λ (q : Point). q.y) p, chunks-some _ g.y.some);
+        low-z = omega (arith, ap (λ (q : Point). q.z) p, chunks-some _ g.z.some);
+        x = b.x;
+        y = b.y;
+        z = b.z;
+      }
+
+count_lt : (z : ℤ) → SFits w32 z → count_of z < 2147483648
+count_lt (pos n) f = f.sfits
+count_lt (negsuc n) f = omega arith
+
+-- distances below the sizes of a header
+pub size_below : (e : Extent) {d : Point} → SFits w32 e.x → SFits w32 e.y → SFits w32 e.z
+    → (d.x < count_of e.x) × (d.y < count_of e.y) × (d.z < count_of e.z) → Below 2147483648 d
+size_below e fx fy fz h =
+    record {
+      x = omega (arith, count_lt e.x fx, h.0);
+      y = omega (arith, count_lt e.y fy, h.1);
+      z = omega (arith, count_lt e.z fz, h.2);
+    }
+
 -- ---- a distance
 
-module _ (o : ℤ) (n : ℕ) (c : ℤ) {lo ln lc : ℕ} (fo : SFits w32 o) (fc : SFits w32 c) (eo : lo ≡ level_of o) (en : ln ≡ n) (ec : lc ≡ level_of c) where
-  pub along-out : along_at lo ln lc ≡ A.Outside → inside_on o n c ≡ false
-  unfolding along_at
-  along-out e = by (leb lo lc) refl (ltb (lc - lo) ln) refl
+-- the distances along three axes, if there are three
+abbrev pub three : Option ℕ → Option ℕ → Option ℕ → Option Point
+three None y z = None
+three (Some x) None z = None
+three (Some x) (Some y) None = None
+three (Some x) (Some y) (Some z) = Some (point_of x y z)
+
+along_law : (o : ℤ) (n : ℕ) (c : ℤ) → SFits w32 o → SFits w32 c → along_at (level_of o) n (level_of c) ≡ cond (inside_on o n c) (Some (nat_abs (c -ℤ o))) None
+unfolding along_at
+along_law o n c fo fc = by (leb (level_of o) (level_of c)) refl
+  where
+    by : (t : Bool) → leb (level_of o) (level_of c) ≡ t
+        → cond (t && ltb (level_of c - level_of o) n) (Some (level_of c - level_of o)) None ≡ cond (inside_on o n c) (Some (nat_abs (c -ℤ o))) None
+    by false p = rw (on-low o n c fo fc (leb-false _ _ p))
+    by true p =
+        let h = leb-true (level_of o) (level_of c) p in
+        rw (on-high o n c fo fc h, on-distance o n c fo fc h)
+
+module _ (v : Volume) (c : Cell) {s : Reach} {p : Point} (fo : Ranged v.origin) (fc : Ranged c) (e : s ≡ reach_of v) (ep : p ≡ levels_of c) where
+  pub spot_law : three (along_at s.x.low s.x.count p.x) (along_at s.y.low s.y.count p.y) (along_at s.z.low s.z.count p.z) ≡ spot_of (shape_of v) c
+  unfolding spot_of inside distance shape_of
+  spot_law =
+      (λ i. three (along_at (e i).x.low (e i).x.count (ep i).x) (along_at (e i).y.low (e i).y.count (ep i).y) (along_at (e i).z.low (e i).z.count (ep i).z))
+      ∙ (λ i. three
+      (along_law v.origin.x (count_of v.size.x) c.x fo.x fc.x i)
+      (along_law v.origin.y (count_of v.size.y) c.y fo.y fc.y i)
+      (along_law v.origin.z (count_of v.size.z) c.z fo.z fc.z i))
+      ∙ by (inside_on v.origin.x (count_of v.size.x) c.x) (inside_on v.origin.y (count_of v.size.y) c.y) (inside_on v.origin.z (count_of v.size.z) c.z) _ _ _
     where
-      by : (s : Bool) → leb lo lc ≡ s → (t : Bool) → ltb (lc - lo) ln ≡ t → inside_on o n c ≡ false
-      by false p t q = on-low o n c fo fc (omega (arith, leb-false lo lc p))
-      by true p true q = absurd (let z : ◌≡◌ {A = ℕ} 0 1 = cc in omega arith)
-      by true p false q = on-high o n c fo fc (omega (arith, leb-true lo lc p)) ∙ (λ i. ltb (sym ec i - sym eo i) (sym en i)) ∙ q
-
-  pub along_in : (d : ℕ) → along_at lo ln lc ≡ A.At d → (inside_on o n c ≡ true) × (nat_abs (c -ℤ o) ≡ d)
-  unfolding along_at
-  along_in d e = by (leb lo lc) refl (ltb (lc - lo) ln) refl
-    where
-      by : (s : Bool) → leb lo lc ≡ s → (t : Bool) → ltb (lc - lo) ln ≡ t → (inside_on o n c ≡ true) × (nat_abs (c -ℤ o) ≡ d)
-      by false p t q = absurd (let z : ◌≡◌ {A = ℕ} 0 1 = cc in omega arith)
-      by true p false q = absurd (let z : ◌≡◌ {A = ℕ} 0 1 = cc in omega arith)
-      by true p true q =
-          let h : level_of o ≤ level_of c = omega (arith, leb-true lo lc p) in (
-            on-high o n c fo fc h ∙ (λ i. ltb (sym ec i - sym eo i) (sym en i)) ∙ q,
-            on-distance o n c fo fc h ∙ (λ i. sym ec i - sym eo i) ∙ cc,
-          )
-
-pub along-below : (o n c : ℕ) → c < o → A.Outside ≡ along_at o n c
-unfolding along_at
-along-below o n c h = rw (lt-leb o c h)
-
-pub along-at : (o n c : ℕ) → o ≤ c → c - o < n → A.At (c - o) ≡ along_at o n c
-unfolding along_at
-along-at o n c h l = rw (le-leb o c h, lt-ltb (c - o) n l)
-
-pub along-past : (o n c : ℕ) → o ≤ c → n ≤ c - o → A.Outside ≡ along_at o n c
-unfolding along_at
-along-past o n c h l = rw (le-leb o c h, le-ltb (c - o) n l)
-
-module _ (g : Shape) (c : Cell) where
-  pub out-x : inside_on g.origin.x g.size.x c.x ≡ false → S.Outside ≡ spot_of g c
-  unfolding spot_of inside
-  out-x e = rw e
-
-  module _ (x : inside_on g.origin.x g.size.x c.x ≡ true) where
-    pub out-y : inside_on g.origin.y g.size.y c.y ≡ false → S.Outside ≡ spot_of g c
-    unfolding spot_of inside
-    out-y e = rw (x, e)
-
-    module _ (y : inside_on g.origin.y g.size.y c.y ≡ true) where
-      pub out-z : inside_on g.origin.z g.size.z c.z ≡ false → S.Outside ≡ spot_of g c
-      unfolding spot_of inside
-      out-z e = rw (x, y, e)
-
-      pub spot_in : inside_on g.origin.z g.size.z c.z ≡ true → S.At (distance g c) ≡ spot_of g c
-      unfolding spot_of inside
-      spot_in z = rw (x, y, z)
+      by : (s t u : Bool) (x y z : ℕ) → three (cond s (Some x) None) (cond t (Some y) None) (cond u (Some z) None) ≡ cond (s && (t && u)) (Some (point_of x y z)) None
+      by false t u x y z = refl
+      by true false u x y z = refl
+      by true true false x y z = refl
+      by true true true x y z = refl
 
 -- ---- a place
 
-pub spot_none : (g : Shape) (c : Cell) → spot_of g c ≡ S.Outside → inside g c ≡ false
+pub spot_none : (g : Shape) (c : Cell) → spot_of g c ≡ None → inside g c ≡ false
 unfolding spot_of
 spot_none g c e = by (inside g c) refl
   where
@@ -147,7 +135,7 @@ spot_none g c e = by (inside g c) refl
     by true p = absurd (let z : ◌≡◌ {A = ℕ} 0 1 = cc in omega arith)
     by false p = refl
 
-pub spot_some : (g : Shape) (c : Cell) (d : Point) → spot_of g c ≡ S.At d → (inside g c ≡ true) × (distance g c ≡ d)
+pub spot_some : (g : Shape) (c : Cell) (d : Point) → spot_of g c ≡ Some d → (inside g c ≡ true) × (distance g c ≡ d)
 unfolding spot_of
 spot_some g c d e = by (inside g c) refl
   where
@@ -156,38 +144,24 @@ spot_some g c d e = by (inside g c) refl
     by false p = absurd (let z : ◌≡◌ {A = ℕ} 0 1 = cc in omega arith)
 
 module _ (g : Shape) (c : Cell) where
-  pub place_none : spot_of g c ≡ S.Outside → P.Outside ≡ place_of g c
+  pub place_none : spot_of g c ≡ None → None ≡ place_of g c
   unfolding place_of
   place_none e = rw (spot_none g c e)
 
-  module _ (d : Point) (e : spot_of g c ≡ S.At d) where
+  module _ (d : Point) (e : spot_of g c ≡ Some d) where
     pub place-stored : opens g ≡ true → Stored (counted g) d
     place-stored o =
         let p = spot_some g c d e in
         subst (Stored (counted g)) p.1 (stored g (distance g c) o (inside-within g c p.0))
 
-    pub place-some : {r : ℕ} → r ≡ slot_at (counted g) d → P.At r ≡ place_of g c
+    pub place-some : {r : ℕ} → r ≡ slot_at (counted g) d → Some r ≡ place_of g c
     unfolding place_of slot
     place-some q =
         let p = spot_some g c d e in
-        ap P.At q ∙ rw (p.0, p.1)
+        ap Some q ∙ rw (p.0, p.1)
 
--- what a place says
-pub placed-out : (g : Shape) (c : Cell) → place_of g c ≡ P.Outside → inside g c ≡ false
-unfolding place_of
-placed-out g c e = by (inside g c) refl
-  where
-    by : (t : Bool) → inside g c ≡ t → t ≡ false
-    by true p = absurd (let z : ◌≡◌ {A = ℕ} 0 1 = cc in omega arith)
-    by false p = refl
-
-pub placed_at : (g : Shape) (c : Cell) (i : ℕ) → place_of g c ≡ P.At i → (inside g c ≡ true) × (slot g c ≡ i)
-unfolding place_of
-placed_at g c i e = by (inside g c) refl
-  where
-    by : (t : Bool) → inside g c ≡ t → (t ≡ true) × (slot g c ≡ i)
-    by true p = (refl, cc)
-    by false p = absurd (let z : ◌≡◌ {A = ℕ} 0 1 = cc in omega arith)
+-- where a cell that is inside is stored, and which section that is
+pub ruleset places = (slot_lt, slot-chunk, formed-opens)
 
 -- ---- bounds of the code's sums
 

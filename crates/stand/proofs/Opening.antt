@@ -1,26 +1,25 @@
 -- Laws of opening: sizes, the header that it gives, and what the whole call comes to.
-use Rattle.std.proofs.Common.{◌≡◌, ℕ, zero, suc, ◌+◌, ◌*◌, ◌<◌, ◌≤◌, Bool, true, false, not, ◌&&◌, leb, [], ◌∷◌, ℤ, sym, refl, ap, ◌∙◌, lt_of_lt_of_le, mul-le-mul_left, mul-one, arith, ltb-false, le-ltb, lt-ltb, eq-eqb, le-leb}
-use borrow.Author.Tests.{lt-leb}
+use Rattle.std.proofs.Common.{◌≡◌, ℕ, zero, suc, ◌+◌, ◌*◌, ◌<◌, ◌≤◌, Bool, true, false, not, ◌&&◌, leb, Result, [], ◌∷◌, ℤ, sym, refl, ap, ◌∙◌, arith, ltb-false, le-ltb, lt-ltb, eq-eqb, le-leb, leb-false, leb-true}
+use borrow.Author.Tests.{not-false}
 use lib.ListN.{length-replicate}
+use Rattle.std.specs.Result.{IsErrAnd}
 use Rattle.arith.specs.Level.{count_of}
+use Rattle.stand.specs.Answer.{answer_of, refusal_number}
 use Rattle.stand.specs.Opening.{header_call, last_inside, open_call, opened, opened_shape, opening_of, open_refusal, shape_rules, size_on, sizes_of, too_many}
-use Rattle.stand.specs.Refusal.{Answer, ◌⇒◌, answer, first, gives, refused}
+use Rattle.stand.specs.Refusal.{◌⇒◌, answer, first, gives, refused}
 use Rattle.stand.specs.Shape.{Ranged, Shape, axis_good, chunks_in, chunks_on, counted, good, last_fits, levels_of, max_chunks, opens, product, sections, shape_of, well_formed}
-use Rattle.stand.specs.Storage.{Storage, extent_of, fresh_storage, lengths_of, storage_fits, volume_of}
+use Rattle.stand.specs.Storage.{Storage, extent_of, fresh_storage, lengths_of, storage_fits, storage_rules, volume_of, zeros}
 use Rattle.stand.specs.declared.Cell.{Cell}
 use Rattle.stand.specs.declared.volume.Extent.{Extent}
 use Rattle.stand.specs.declared.volume.Volume.{Volume}
+use Rattle.stand.specs.declared.volume.refusal.Refusal.{Refusal}
 use Rattle.stand.specs.declared.volume.shape.Point.{Point}
 use Rattle.stand.proofs.Levels.{last_law}
-use Rattle.stand.proofs.Refusal.{accepted, first_part, first_rest, given_by, numbered, refused_by}
-use Rattle.stand.proofs.Storage.{fits_all}
+use Rattle.stand.proofs.Refusal.{accepted, begun, exit_is, first_rest, given_by, numbered, passes, refused_by, some_number}
+use Rattle.stand.proofs.Storage.{fits_all, zeros_fresh}
 use Rattle.stand.proofs.Tests.{both}
 
 -- ---- sizes
-
-pub size_low : (s : ℤ) {n : ℕ} → n ≡ count_of s → n < 1 → 1 ≡ size_on s
-unfolding size_on
-size_low s e h = rw (← e) (omega arith)
 
 pub size-high : (s : ℤ) {n : ℕ} → n ≡ count_of s → 1 ≤ n → n ≡ size_on s
 unfolding size_on
@@ -57,19 +56,9 @@ fresh-fits n =
 -- ---- the last cell, by levels
 
 module _ {o : Cell} {l : Point} (n : Point) (f : Ranged o) (e : l ≡ levels_of o) where
-  by_levels : last_inside o n ≡ (leb (l.x + n.x) 4294967296 && (leb (l.y + n.y) 4294967296 && leb (l.z + n.z) 4294967296))
+  pub last_by_levels : last_inside o n ≡ (leb (l.x + n.x) 4294967296 && (leb (l.y + n.y) 4294967296 && leb (l.z + n.z) 4294967296))
   unfolding last_inside
-  by_levels = rw (e, last_law o.x n.x f.x, last_law o.y n.y f.y, last_law o.z n.z f.z)
-
-  pub past-x : 4294967296 < l.x + n.x → false ≡ last_inside o n
-  past-x h = sym (by_levels ∙ rw (lt-leb (l.x + n.x) 4294967296 h))
-
-  module _ (p : l.x + n.x ≤ 4294967296) where
-    pub past-y : 4294967296 < l.y + n.y → false ≡ last_inside o n
-    past-y h = sym (by_levels ∙ rw (le-leb (l.x + n.x) 4294967296 p, lt-leb (l.y + n.y) 4294967296 h))
-
-    pub last-z : l.y + n.y ≤ 4294967296 → leb (l.z + n.z) 4294967296 ≡ last_inside o n
-    last-z h = sym (by_levels ∙ rw (le-leb (l.x + n.x) 4294967296 p, le-leb (l.y + n.y) 4294967296 h))
+  last_by_levels = rw (e, last_law o.x n.x f.x, last_law o.y n.y f.y, last_law o.z n.z f.z)
 
 -- ---- refusals 1 and 2
 
@@ -123,19 +112,14 @@ module _ (o : Cell) (s : Extent) {n k : Point} (en : n ≡ sizes_of s) (ek : k �
   unfolding sections counted opened_shape
   all-sections = ap product (ek ∙ ap chunks_in en)
 
-  pub header_many : max_chunks < product k → refused 1 ≡ header_call o s
+  pub header_many : leb (product k) max_chunks ≡ false → refused 1 ≡ header_call o s
   unfolding header_call answer
-  header_many h = rw (rules_many (opened_shape o s) (rw all-sections at h))
+  header_many h = rw (rules_many (opened_shape o s) (rw all-sections at (leb-false _ _ h)))
 
-  -- two axes alone are too many
-  pub header_plane : 1 ≤ k.z → max_chunks < k.x * k.y → refused 1 ≡ header_call o s
-  unfolding product
-  header_plane p h = header_many (lt_of_lt_of_le h (rw mul-one at (mul-le-mul_left (k.x * k.y) p)))
-
-  module _ (few : product k ≤ max_chunks) where
+  module _ (few : leb (product k) max_chunks ≡ true) where
     pub header-last : last_inside o n ≡ false → refused 2 ≡ header_call o s
     unfolding header_call answer opened_shape
-    header-last e = rw (rules_last (opened_shape o s) (rw all-sections at few) (ap (last_inside o) (sym en) ∙ e))
+    header-last e = rw (rules_last (opened_shape o s) (rw all-sections at (leb-true _ _ few)) (ap (last_inside o) (sym en) ∙ e))
 
     pub header_is : {a b : Extent} → last_inside o n ≡ true → a ≡ extent_of k → b ≡ extent_of n
         → gives (record { origin = o; chunks = a; size = b; generation = 0; solid = 0 }) ≡ header_call o s
@@ -144,7 +128,7 @@ module _ (o : Cell) (s : Extent) {n k : Point} (en : n ≡ sizes_of s) (ek : k �
         let p = ea ∙ ap extent_of (ek ∙ ap chunks_in en) in
         let q = eb ∙ ap extent_of en in
         (λ i. gives (record { origin = o; chunks = p i; size = q i; generation = 0; solid = 0 }))
-        ∙ accepted _ (rules_none (opened_shape o s) (rw all-sections at few) (ap (last_inside o) (sym en) ∙ e))
+        ∙ accepted _ (rules_none (opened_shape o s) (rw all-sections at (leb-true _ _ few)) (ap (last_inside o) (sym en) ∙ e))
 
 -- ---- the whole call
 
@@ -153,16 +137,22 @@ unfolding opened
 opened_not zero s g h = absurd (h refl)
 opened_not (suc m) s g h = refl
 
--- turned back by the header
-pub open_turned : (s : Storage) (o : Cell) (size : Extent) {r : Answer Volume} {n : ℕ} → r ≡ header_call o size → r ≡ refused n → opening_of r s ≡ open_call s o size
-unfolding header_call open_call open_refusal
-open_turned s o size {n = n} e f =
+-- an exit by `?` under the number that the whole call has
+exit_open : (o : Cell) (size : Extent) (s : Storage) (e : Refusal) (x : Result Volume Refusal)
+    → IsErrAnd x (λ f. f ≡ e) → refusal_number e ≡ open_refusal (opened_shape o size) (lengths_of s) → opening_of (answer_of x) s ≡ open_call s o size
+unfolding open_call
+exit_open o size s e x h q =
+    ap (λ (y : Result Volume Refusal). opening_of (answer_of y) s) (exit_is e x h)
+    ∙ opened_not _ s (opened_shape o size) (some_number e)
+    ∙ ap (λ (m : ℕ). opened m s (opened_shape o size)) q
+
+-- refused by the header
+pub open_turned : (o : Cell) (size : Extent) (s : Storage) (e : Refusal) (x : Result Volume Refusal)
+    → refused (refusal_number e) ≡ header_call o size → IsErrAnd x (λ f. f ≡ e) → opening_of (answer_of x) s ≡ open_call s o size
+unfolding header_call open_refusal
+open_turned o size s e x q h =
     let g = opened_shape o size in
-    let p = refused_by (first (shape_rules g)) n (volume_of g 0 0) (sym f ∙ e) in
-    let q = first_part (shape_rules g) ((not (storage_fits (sections g) (lengths_of s)) ⇒ 4) ∷ []) p.0 in
-    ap (λ (a : Answer Volume). opening_of a s) (f ∙ ap refused p.1)
-    ∙ opened_not (first (shape_rules g)) s g p.0
-    ∙ sym (ap (λ (m : ℕ). opened m s g) q)
+    exit_open o size s e x h (begun e (shape_rules g) _ (refused_by (first (shape_rules g)) _ (volume_of g 0 0) q).1)
 
 module _ (o : Cell) (size : Extent) {v : Volume} (e : gives v ≡ header_call o size) where
   is-given : (first (shape_rules (opened_shape o size)) ≡ 0) × (v ≡ volume_of (opened_shape o size) 0 0)
@@ -172,18 +162,27 @@ module _ (o : Cell) (size : Extent) {v : Volume} (e : gives v ≡ header_call o 
   pub given-formed : well_formed v ≡ true
   given-formed = rw is-given.1 (volume-formed (opened_shape o size) 0 0 (opened-opens o size is-given.0))
 
-  module _ (s : Storage) {n : ℕ} (en : n ≡ sections (shape_of v)) where
-    total : n ≡ sections (opened_shape o size)
-    total = en ∙ ap (λ (u : Volume). sections (shape_of u)) is-given.1 ∙ ap sections (volume-shape (opened_shape o size) 0 0)
+  given_shape : shape_of v ≡ opened_shape o size
+  given_shape = ap shape_of is-given.1 ∙ volume-shape (opened_shape o size) 0 0
 
-    lengths_decide : open_refusal (opened_shape o size) (lengths_of s) ≡ first ((not (storage_fits n (lengths_of s)) ⇒ 4) ∷ [])
-    unfolding open_refusal numbered
-    lengths_decide = rw total (first_rest (shape_rules (opened_shape o size)) _ refl is-given.0)
+  module _ (s : Storage) where
+    -- lengths alone decide, as they do where a header and storage are given
+    decide : first (storage_rules v (lengths_of s)) ≡ open_refusal (opened_shape o size) (lengths_of s)
+    unfolding first open_refusal numbered
+    decide =
+        rw given-formed
+        (ap (λ (g : Shape). first ((not (storage_fits (sections g) (lengths_of s)) ⇒ 4) ∷ [])) given_shape
+        ∙ sym (first_rest (shape_rules (opened_shape o size)) ((not (storage_fits (sections (opened_shape o size)) (lengths_of s)) ⇒ 4) ∷ []) refl is-given.0))
 
-    pub open_short : storage_fits n (lengths_of s) ≡ false → opening_of (refused 4) s ≡ open_call s o size
-    unfolding open_call opened first
-    open_short f = rw (lengths_decide, f)
+    -- refused by storage
+    pub open_short : (d : Refusal) (x : Result Volume Refusal) → refusal_number d ≡ first (storage_rules v (lengths_of s)) → IsErrAnd x (λ f. f ≡ d)
+        → opening_of (answer_of x) s ≡ open_call s o size
+    open_short d x q h = exit_open o size s d x h (q ∙ decide)
 
-    pub open_done : {t : Storage} → storage_fits n (lengths_of s) ≡ true → t ≡ fresh_storage n → opening_of (gives v) t ≡ open_call s o size
-    unfolding open_call opened first
-    open_done f h = rw (lengths_decide, f) (λ i. opening_of (gives (is-given.1 i)) ((h ∙ ap fresh_storage total) i))
+    pub open_done : {t : Storage} → 0 ≡ first (storage_rules v (lengths_of s)) → t ≡ zeros (lengths_of s) → opening_of (gives v) t ≡ open_call s o size
+    unfolding open_call opened
+    open_done z h =
+        let p = passes _ 2 _ (sym z) in
+        let f = not-false _ (passes _ 3 _ p.1).0 in
+        rw (← decide, ← z)
+        (λ i. opening_of (gives (is-given.1 i)) ((h ∙ zeros_fresh _ (lengths_of s) f ∙ ap (λ (g : Shape). fresh_storage (sections g)) given_shape) i))

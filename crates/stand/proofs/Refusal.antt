@@ -1,7 +1,12 @@
 -- Laws of refusals: a table begun by another, and the answer under its number.
-use Rattle.std.proofs.Common.{◌≡◌, ℕ, zero, suc, Bool, true, false, List, [], ◌∷◌, ◌++◌, refl, arith}
+use Rattle.std.proofs.Common.{◌≡◌, ℕ, zero, suc, Bool, true, false, List, [], ◌∷◌, ◌++◌, Result, Err, sym, refl, ap, ◌∙◌, arith}
 use mathlib.Core.Bool.{false≢true}
+use Rattle.std.specs.Result.{IsErrAnd}
+use Rattle.std.proofs.lemmas.Result.{err_from_is_err_and}
+use Rattle.stand.specs.Answer.{answer_of, refusal_number}
 use Rattle.stand.specs.Refusal.{Answer, Rule, ◌⇒◌, answer, first, gives, refused}
+use Rattle.stand.specs.declared.volume.refusal.Refusal.{Refusal}
+use Rattle.stand.specs.declared.volume.refusal.Refusal.TheVariants as R
 
 -- a number that is not 0 is the answer
 pub turned : {A : Type 0} (n : ℕ) (a : A) → (n ≡ 0 → ⊥) → refused n ≡ answer n a
@@ -55,3 +60,39 @@ first_rest ((true ⇒ zero) ∷ rs) qs m h = absurd (false≢true m)
 first_rest ((true ⇒ suc n) ∷ rs) qs m h = absurd (omega arith)
 first_rest ((false ⇒ zero) ∷ rs) qs m h = absurd (false≢true m)
 first_rest ((false ⇒ suc n) ∷ rs) qs m h = first_rest rs qs m h
+
+-- ---- the code's Results: what an exit by `?` answers, and what is left after it
+
+pub some_number : (r : Refusal) → refusal_number r ≡ 0 → ⊥
+some_number R.TooManyChunks e = omega arith
+some_number R.LastCellPastI32 e = omega arith
+some_number R.NotOpened e = omega arith
+some_number R.WrongLength e = omega arith
+some_number R.CellOutside e = omega arith
+some_number R.GenerationsSpent e = omega arith
+some_number R.NoSuchChunk e = omega arith
+some_number R.MarkAhead e = omega arith
+some_number R.MarkTooOld e = omega arith
+some_number R.MaskTooShort e = omega arith
+some_number R.Unpriced e = omega arith
+some_number R.Implausible e = omega arith
+some_number R.BadForm e = omega arith
+some_number R.OutputTooShort e = omega arith
+
+-- a refusal under a table's number is the table's answer
+pub refuses : {A : Type 0} {n : ℕ} (r : Refusal) (a : A) → refusal_number r ≡ n → refused (refusal_number r) ≡ answer n a
+refuses r a e = turned (refusal_number r) a (some_number r) ∙ ap (λ (m : ℕ). answer m a) e
+
+-- an exit by `?` returns the refusal that it met
+pub exit_is : {A : Type 0} (e : Refusal) (r : Result A Refusal) → IsErrAnd r (λ f. f ≡ e) → r ≡ Err e
+exit_is e r x =
+    let p = err_from_is_err_and r x in
+    p.1 ∙ ap Err p.2
+
+-- so it answers as a table that gives this refusal's number
+pub exits : {A : Type 0} {n : ℕ} (e : Refusal) (r : Result A Refusal) (a : A) → IsErrAnd r (λ f. f ≡ e) → refusal_number e ≡ n → answer_of r ≡ answer n a
+exits e r a x d = ap answer_of (exit_is e r x) ∙ refuses e a d
+
+-- a table begun by one that gives a refusal's number gives it too
+pub begun : (r : Refusal) (rs qs : List Rule) → refusal_number r ≡ first rs → refusal_number r ≡ first (rs ++ qs)
+begun r rs qs e = e ∙ sym (first_part rs qs (λ z. some_number r (e ∙ z)))

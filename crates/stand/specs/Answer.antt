@@ -1,43 +1,31 @@
--- The enums of the code as answers: document 01, 'What form each place needs'.
-use Rattle.std.specs.Prelude.{ℕ, Bool}
+-- Refusals of the code as document 01's numbers, and Results as answers: document 01, 'What form each place needs'.
+use Rattle.std.specs.Prelude.{ℕ, Result, Ok, Err}
 use Rattle.stand.specs.Refusal.{Answer, gives, refused}
-use Rattle.stand.specs.declared.Cell.{Cell}
-use Rattle.stand.specs.declared.volume.Extent.{Extent}
-use Rattle.stand.specs.declared.volume.Volume.{Volume}
-use Rattle.stand.specs.declared.volume.answer.BoolAnswer as B
-use Rattle.stand.specs.declared.volume.answer.CellAnswer as C
-use Rattle.stand.specs.declared.volume.answer.ExtentAnswer as E
-use Rattle.stand.specs.declared.volume.answer.NumberAnswer as N
-use Rattle.stand.specs.declared.volume.answer.VolumeAnswer as O
-use Rattle.stand.specs.declared.volume.answer.VoxelAnswer as X
-use Rattle.stand.specs.declared.volume.answer.SetAnswer as S
+use Rattle.stand.specs.declared.volume.refusal.Refusal.{Refusal}
+use Rattle.stand.specs.declared.volume.refusal.Refusal.TheVariants as R
 
-abbrev pub bool_answer : B.BoolAnswer → Answer Bool
-bool_answer (B.TheVariants.Is b) = gives b
-bool_answer (B.TheVariants.Refused n) = refused n
+abbrev pub refusal_number : Refusal → ℕ
+refusal_number R.TooManyChunks = 1
+refusal_number R.LastCellPastI32 = 2
+refusal_number R.NotOpened = 3
+refusal_number R.WrongLength = 4
+refusal_number R.CellOutside = 5
+refusal_number R.GenerationsSpent = 6
+refusal_number R.NoSuchChunk = 7
+refusal_number R.MarkAhead = 8
+refusal_number R.MarkTooOld = 9
+refusal_number R.MaskTooShort = 10
+refusal_number R.Unpriced = 12
+refusal_number R.Implausible = 13
+refusal_number R.BadForm = 14
+refusal_number R.OutputTooShort = 15
 
-abbrev pub cell_answer : C.CellAnswer → Answer Cell
-cell_answer (C.TheVariants.Is c) = gives c
-cell_answer (C.TheVariants.Refused n) = refused n
+-- a value, or the number under which the call is refused
+abbrev pub answer_of : {A : Type 0} → Result A Refusal → Answer A
+answer_of (Ok a) = gives a
+answer_of (Err r) = refused (refusal_number r)
 
-abbrev pub extent_answer : E.ExtentAnswer → Answer Extent
-extent_answer (E.TheVariants.Is e) = gives e
-extent_answer (E.TheVariants.Refused n) = refused n
-
-abbrev pub number_answer : N.NumberAnswer → Answer ℕ
-number_answer (N.TheVariants.Is m) = gives m
-number_answer (N.TheVariants.Refused n) = refused n
-
-abbrev pub volume_answer : O.VolumeAnswer → Answer Volume
-volume_answer (O.TheVariants.Is v) = gives v
-volume_answer (O.TheVariants.Refused n) = refused n
-
-abbrev pub voxel_answer : X.VoxelAnswer → Answer ℕ
-voxel_answer (X.TheVariants.Is v) = gives v.0
-voxel_answer (X.TheVariants.Refused n) = refused n
-
--- 1 for changed, 0 for unchanged
-abbrev pub set_answer : S.SetAnswer → Answer ℕ
-set_answer S.TheVariants.Changed = gives 1
-set_answer S.TheVariants.Unchanged = gives 0
-set_answer (S.TheVariants.Refused n) = refused n
+-- the number alone, 0 for none
+abbrev pub code_of : {A : Type 0} → Result A Refusal → ℕ
+code_of (Ok a) = 0
+code_of (Err r) = refusal_number r

@@ -70,7 +70,7 @@ put s i v = cond (slice_index s.cells i == v) (edited_of 0 s) (edited_of 1 (chan
 unfoldable pub set_def : State → Cell → ℕ → Edited
 set_def s c v = put s (slot (shape s) c) v
 
--- what turns a set back, from what a stand and the book both have: is the header well formed, does storage fit, the generation, the finish before
+-- what refuses a set, from what a stand and the book both have: is the header well formed, does storage fit, the generation, the finish before
 unfoldable pub set_refusal : Bool → Bool → Shape → ℕ → ℕ → Cell → ℕ → ℕ
 set_refusal formed fits g generation old c v =
     first

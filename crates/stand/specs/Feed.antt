@@ -1,9 +1,8 @@
 -- Changed since a mark: document 01, 'The stand' and refusals 3, 4, 8 and 9.
-use Rattle.std.specs.Prelude.{ℕ, zero, suc, ◌+◌, ◌-◌, ◌%◌, Bool, true, false, cond, not, ◌&&◌, ltb, List, [], ◌∷◌, length, ◌==◌, nat_le, nat_lt, slice_index, slice_set}
+use Rattle.std.specs.Prelude.{ℕ, zero, suc, ◌+◌, ◌-◌, ◌%◌, Bool, cond, not, ◌&&◌, ltb, List, [], ◌∷◌, length, ◌==◌, nat_le, nat_lt, slice_index, slice_set}
 use Rattle.stand.specs.Refusal.{Answer, ◌⇒◌, answer, first, gives, refused}
 use Rattle.stand.specs.Shape.{sections, shape_of, well_formed}
 use Rattle.stand.specs.declared.volume.Volume.{Volume}
-use Rattle.stand.specs.declared.volume.feed.ChunkStep as K
 
 -- ---- over the log and the last changes of n sections
 
@@ -53,11 +52,6 @@ changed_step v log last next =
     answer (feed_refusal v (length log) (length last) next)
     (next_from (sections (shape_of v)) log last next (v.generation - next))
 
-abbrev pub chunk_step : K.ChunkStep → Answer Next
-chunk_step (K.TheVariants.Chunk c g) = gives (chunk c g)
-chunk_step K.TheVariants.End = gives end
-chunk_step (K.TheVariants.Refused n) = refused n
-
 -- where a walk that stood at next stands after a step: at the generation that gave a section, else where it stood
 abbrev pub next_after : Answer Next → ℕ → ℕ
 next_after (gives (chunk c g)) next = g
@@ -83,14 +77,3 @@ walked (suc n) cs out = (refused (suc n), out)
 unfoldable pub walk_call : Volume → List ℕ → List ℕ → ℕ → List ℕ → Answer ℕ × List ℕ
 walk_call v log last mark out =
     walked (feed_refusal v (length log) (length last) mark) (sections_since v log last mark) out
-
--- for the code: whether a step gives a section, and a list with that section at place i
-abbrev pub gave : Answer Next → Bool
-gave (gives (chunk c g)) = true
-gave (gives end) = false
-gave (refused n) = false
-
-abbrev pub with_given : Answer Next → ℕ → List ℕ → List ℕ
-with_given (gives (chunk c g)) i out = slice_set out i c
-with_given (gives end) i out = out
-with_given (refused n) i out = out

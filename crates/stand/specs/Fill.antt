@@ -1,13 +1,12 @@
 -- Filling a box: document 01, 'The stand' and refusals 3, 4 and 6; document 02, 2.1.
-use Rattle.std.specs.Prelude.{◌≡◌, ℕ, zero, suc, ◌+◌, ◌-◌, ◌*◌, ◌≤◌, min, max, Bool, true, cond, not, ◌&&◌, ◌||◌, List, [], ◌∷◌, ◌++◌, ℤ, pos, ◌+ℤ◌, ◌-ℤ◌, ◌==◌, int_le, int_lt, nat_lt, unsigned_abs}
+use Rattle.std.specs.Prelude.{◌≡◌, ℕ, zero, suc, ◌+◌, ◌-◌, ◌*◌, ◌≤◌, min, max, Bool, true, cond, not, ◌&&◌, ◌||◌, List, [], ◌∷◌, ◌++◌, ℤ, pos, ◌+ℤ◌, ◌-ℤ◌, ◌==◌, int_le, int_lt, nat_lt, unsigned_abs, Option, Some, None}
 use Rattle.stand.specs.Cells.{cell_of}
 use Rattle.stand.specs.Edit.{Edited, edited, edited_of, fitting, last_generation, set_def}
 use Rattle.stand.specs.Refusal.{◌⇒◌, first}
 use Rattle.stand.specs.Shape.{Shape, cell_from, point_of, product, well_formed}
 use Rattle.stand.specs.Storage.{Outcome, State, shape}
 use Rattle.stand.specs.declared.Cell.{Cell}
-use Rattle.stand.specs.declared.volume.shape.Common.{Common}
-use Rattle.stand.specs.declared.volume.shape.Common.TheVariants as C
+use Rattle.stand.specs.declared.volume.shape.Span.{Span}
 use Rattle.stand.specs.declared.volume.shape.Region.{Region}
 use Rattle.stand.specs.declared.volume.shape.Point.{Point}
 
@@ -103,7 +102,7 @@ set_each e (c ∷ cs) v = set_each (and_then e.count (set_def e.state c v)) cs v
 unfoldable pub fill_def : State → Cell → Cell → ℕ → Edited
 fill_def s a b v = set_each (edited_of 0 s) (box_cells (shape s) (box_of (shape s) a b)) v
 
--- what turns a fill back; the cells of the common part count, changed or not
+-- what refuses a fill; the cells of the common part count, changed or not
 unfoldable pub fill_refusal : Bool → Bool → Shape → ℕ → Cell → Cell → ℕ
 fill_refusal formed fits g generation a b =
     first
@@ -126,9 +125,14 @@ pub record Spanned (o n a b low count : ℕ) : Type 0 where
   pub low-is : low ≡ below_at o n (min a b)
   pub count-is : count ≡ below_at o n (max a b + 1) - low
 
+-- the same where it has a cell
+abbrev pub SpannedSome : ℕ → ℕ → ℕ → ℕ → Option Span → Type 0
+SpannedSome o n a b (Some s) = Spanned o n a b s.low s.count × (s.count ≡ 0 → ⊥)
+SpannedSome o n a b None = (low : ℕ) × Spanned o n a b low 0
+
 -- the common part, where there is one
-unfoldable pub common_of : Shape → Cell → Cell → Common
-common_of g a b = cond (cells_in (box_of g a b) == 0) C.None (C.Is (box_of g a b))
+unfoldable pub common_of : Shape → Cell → Cell → Option Region
+common_of g a b = cond (cells_in (box_of g a b) == 0) None (Some (box_of g a b))
 
 -- a region that can be filled
 pub record Fillable (s : State) (p : Point) (n m l : ℕ) : Type 0 where

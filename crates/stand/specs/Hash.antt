@@ -1,4 +1,5 @@
 -- Document 01, 'The stand', term and digest.
+use Rattle.std.specs.List.{fold}
 use Rattle.std.specs.Prelude.{ℕ, ◌+◌, ◌*◌, ◌/◌, ◌%◌, ◌^◌, List, [], ◌∷◌, ◌++◌, ℤ, bit_xor}
 use Rattle.arith.specs.Level.{pattern_of}
 use Rattle.arith.specs.Wrap.{mul64}
@@ -26,8 +27,7 @@ unfoldable pub fold_word : ℕ → ℕ → ℕ
 fold_word acc word = mul64 (bit_xor acc word) 0x100000001b3
 
 unfoldable pub fold_words : ℕ → List ℕ → ℕ
-fold_words acc [] = acc
-fold_words acc (w ∷ ws) = fold_words (fold_word acc w) ws
+fold_words = fold fold_word
 
 -- origin, section counts and sizes, each the unsigned 32-bit pattern
 unfoldable pub shape_words : Volume → List ℕ

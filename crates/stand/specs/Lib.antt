@@ -13,3 +13,5 @@ pub mod Sides
 pub mod Sound
 pub mod Storage
 pub mod Solids
+pub mod Extents
+pub mod Lent

@@ -1,5 +1,5 @@
 -- The calls that only read: document 01, 'The stand' and refusals 3, 4, 5 and 7.
-use Rattle.std.specs.Prelude.{ℕ, zero, suc, Bool, not, ◌&&◌, List, [], ◌∷◌, ◌++◌, length, nat_le, slice_index}
+use Rattle.std.specs.Prelude.{ℕ, Bool, not, ◌&&◌, List, [], ◌∷◌, ◌++◌, length, nat_le, slice_index}
 use Rattle.stand.specs.Cells.{is_empty}
 use Rattle.stand.specs.Edit.{look}
 use Rattle.stand.specs.Refusal.{Answer, ◌⇒◌, answer, first, header_rules, list_rules}
@@ -42,13 +42,9 @@ unfoldable pub entry_call : Volume → List ℕ → ℕ → Answer ℕ
 entry_call v l i =
     answer (first (list_rules 1 v (length l) ++ (nat_le (sections (shape_of v)) i ⇒ 7) ∷ [])) (slice_index l i)
 
--- the versions of all: the list lent, or an empty one under a number that is not 0
-unfoldable pub unless_refused : ℕ → List ℕ → List ℕ
-unless_refused zero l = l
-unless_refused (suc n) l = []
-
-unfoldable pub versions_given : Volume → List ℕ → List ℕ
-versions_given v l = unless_refused (first (list_rules 1 v (length l))) l
+-- the versions of all
+unfoldable pub versions_call : Volume → List ℕ → Answer (List ℕ)
+versions_call v l = answer (first (list_rules 1 v (length l))) l
 
 unfoldable pub digest_call : Volume → List ℕ → Answer ℕ
 digest_call v hashes = answer (first (list_rules 1 v (length hashes))) (digest_of v hashes)

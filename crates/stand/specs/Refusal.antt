@@ -13,7 +13,7 @@ unfoldable pub first : List Rule → ℕ
 first [] = 0
 first ((b ⇒ n) ∷ rs) = cond b n (first rs)
 
--- what a call answers: a number under which it is turned back, or a value
+-- what a call answers: a number under which it is refused, or a value
 pub data Answer (A : Type 0) : Type 0 where
   refused : ℕ → Answer A
   gives : A → Answer A

@@ -1,18 +1,14 @@
 -- A stand's shape, and the places of its cells and sections: document 01, 'The stand'.
-use Rattle.std.specs.Prelude.{ℕ, ◌+◌, ◌-◌, ◌*◌, ◌/◌, ◌%◌, ◌<◌, ◌≤◌, min, Bool, cond, ◌&&◌, ℤ, pos, ◌+ℤ◌, ◌-ℤ◌, FitsSigned, ◌==◌, int_le, int_lt, nat_le, nat_lt, unsigned_abs}
+use Rattle.std.specs.Prelude.{ℕ, ◌+◌, ◌-◌, ◌*◌, ◌/◌, ◌%◌, ◌<◌, ◌≤◌, min, Bool, cond, ◌&&◌, ℤ, pos, ◌+ℤ◌, ◌-ℤ◌, FitsSigned, ◌==◌, int_le, int_lt, nat_le, nat_lt, unsigned_abs, Option, Some, None}
 use Rattle.std.specs.Int.{w32}
 use Rattle.arith.specs.Level.{count_of, level_of}
 use Rattle.stand.specs.Cells.{cell_of, moved}
 use Rattle.stand.specs.declared.Cell.{Cell}
 use Rattle.stand.specs.declared.volume.Extent.{Extent}
 use Rattle.stand.specs.declared.volume.Volume.{Volume}
-use Rattle.stand.specs.declared.volume.shape.Along.{Along}
-use Rattle.stand.specs.declared.volume.shape.Along.TheVariants as A
-use Rattle.stand.specs.declared.volume.shape.Place.{Place}
-use Rattle.stand.specs.declared.volume.shape.Place.TheVariants as P
 use Rattle.stand.specs.declared.volume.shape.Point.{Point}
-use Rattle.stand.specs.declared.volume.shape.Spot.{Spot}
-use Rattle.stand.specs.declared.volume.shape.Spot.TheVariants as S
+use Rattle.stand.specs.declared.volume.shape.Span.{Span}
+use Rattle.stand.specs.declared.volume.shape.Reach.{Reach}
 
 -- the limit of sections
 abbrev pub max_chunks : ℕ
@@ -156,10 +152,17 @@ shape_of v = record { origin = v.origin; size = counts_of v.size }
 unfoldable pub well_formed : Volume → Bool
 well_formed v = good v.origin (counts_of v.size) (counts_of v.chunks)
 
--- ---- the same for the code: by levels, and as enums
+-- ---- the same for the code: by levels, and as Options
 
 abbrev pub levels_of : Cell → Point
 levels_of c = point_of (level_of c.x) (level_of c.y) (level_of c.z)
+
+-- one axis of a stand, and all three
+abbrev pub span_of : ℤ → ℤ → Span
+span_of o n = record { low = level_of o; count = count_of n }
+
+abbrev pub reach_of : Volume → Reach
+reach_of v = record { x = span_of v.origin.x v.size.x; y = span_of v.origin.y v.size.y; z = span_of v.origin.z v.size.z }
 
 -- coordinates that i32 holds
 pub record Ranged (c : Cell) : Type 0 where
@@ -189,14 +192,14 @@ unfoldable pub axis_at : ℕ → ℕ → ℕ → Bool
 axis_at o n k = nat_le 1 n && (nat_le (o + n) 4294967296 && k == chunks_on n)
 
 -- the distance of a coordinate by levels
-unfoldable pub along_at : ℕ → ℕ → ℕ → Along
-along_at o n c = cond (nat_le o c && nat_lt (c - o) n) (A.At (c - o)) A.Outside
+unfoldable pub along_at : ℕ → ℕ → ℕ → Option ℕ
+along_at o n c = cond (nat_le o c && nat_lt (c - o) n) (Some (c - o)) None
 
-unfoldable pub spot_of : Shape → Cell → Spot
-spot_of g c = cond (inside g c) (S.At (distance g c)) S.Outside
+unfoldable pub spot_of : Shape → Cell → Option Point
+spot_of g c = cond (inside g c) (Some (distance g c)) None
 
-unfoldable pub place_of : Shape → Cell → Place
-place_of g c = cond (inside g c) (P.At (slot g c)) P.Outside
+unfoldable pub place_of : Shape → Cell → Option ℕ
+place_of g c = cond (inside g c) (Some (slot g c)) None
 
 -- distances that lie in a store of at most the limit
 pub record Stored (k d : Point) : Type 0 where

@@ -1,11 +1,8 @@
 -- The six sides by number: document 01, 'Panels'.
-use Rattle.std.specs.Prelude.{ℕ, zero, suc, ◌/◌, ◌%◌, cond, ℤ, pos, negsuc, ◌==◌}
-use Rattle.std.proofs.Math.Option.{Option, none, some}
+use Rattle.std.specs.Prelude.{ℕ, zero, suc, ◌/◌, ◌%◌, cond, ℤ, pos, negsuc, ◌==◌, Option, Some, None}
 use Rattle.stand.specs.declared.Axes.{Axes}
 use Rattle.stand.specs.declared.Face.{Face}
 use Rattle.stand.specs.declared.Face.TheVariants.{East, West, Top, Bottom, North, South}
-use Rattle.stand.specs.declared.FaceAnswer.{FaceAnswer}
-use Rattle.stand.specs.declared.FaceAnswer.TheVariants as A
 use Rattle.stand.specs.declared.Step.{Step}
 
 -- East, West, Top, Bottom, North, South, in that order
@@ -18,17 +15,13 @@ side_number North = 4
 side_number South = 5
 
 abbrev pub face_at : ℕ → Option Face
-face_at zero = some East
-face_at (suc zero) = some West
-face_at (suc (suc zero)) = some Top
-face_at (suc (suc (suc zero))) = some Bottom
-face_at (suc (suc (suc (suc zero)))) = some North
-face_at (suc (suc (suc (suc (suc zero))))) = some South
-face_at (suc (suc (suc (suc (suc (suc n)))))) = none
-
-abbrev pub face_answer : FaceAnswer → Option Face
-face_answer (A.Is f) = some f
-face_answer A.None = none
+face_at zero = Some East
+face_at (suc zero) = Some West
+face_at (suc (suc zero)) = Some Top
+face_at (suc (suc (suc zero))) = Some Bottom
+face_at (suc (suc (suc (suc zero)))) = Some North
+face_at (suc (suc (suc (suc (suc zero))))) = Some South
+face_at (suc (suc (suc (suc (suc (suc n)))))) = None
 
 -- two sides to an axis: x, y, z
 unfoldable pub normal_at : ℕ → ℕ

@@ -1,11 +1,10 @@
 -- The walk over occupied cells: document 01, 'The stand'; by storage index, slots beyond the size included.
 use Rattle.std.specs.Prelude.{ℕ, zero, suc, ◌+◌, ◌-◌, cond, List, length, nat_lt, slice_index}
 use Rattle.stand.specs.Cells.{is_empty}
-use Rattle.stand.specs.Refusal.{Answer, answer, first, gives, list_rules, refused}
+use Rattle.stand.specs.Refusal.{Answer, answer, first, list_rules}
 use Rattle.stand.specs.Shape.{Shape, cell_at, shape_of}
 use Rattle.stand.specs.declared.Cell.{Cell}
 use Rattle.stand.specs.declared.volume.Volume.{Volume}
-use Rattle.stand.specs.declared.volume.solids.SolidStep as W
 
 -- an occupied cell, its finish, and the index after it
 pub data Solid : Type 0 where
@@ -24,8 +23,3 @@ unfoldable pub solids_call : Volume → List ℕ → ℕ → Answer Solid
 solids_call v cells i =
     answer (first (list_rules 4096 v (length cells)))
     (solid_at (shape_of v) cells (occupied_from cells i (length cells - i)))
-
-abbrev pub solid_step : W.SolidStep → Answer Solid
-solid_step (W.TheVariants.Cell c v s) = gives (solid c v.0 s.next)
-solid_step W.TheVariants.End = gives end
-solid_step (W.TheVariants.Refused n) = refused n

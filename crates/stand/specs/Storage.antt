@@ -91,6 +91,10 @@ volume_of g generation solid =
 unfoldable pub fresh_storage : ℕ → Storage
 fresh_storage n = storage_of (replicate (n * 4096) 0) (replicate n 0) (replicate n 0) (replicate n 0) (replicate n 0)
 
+-- the same lengths, all of it 0
+unfoldable pub zeros : Lengths → Storage
+zeros l = storage_of (replicate l.cells 0) (replicate l.hashes 0) (replicate l.versions 0) (replicate l.log 0) (replicate l.last 0)
+
 abbrev pub joined : Volume → Storage → State
 joined v s = state_of v s.cells s.hashes s.versions s.log s.last
 

@@ -3,31 +3,33 @@
 
 ghost use Rattle.std.specs.Prelude.{◌≡◌, ◌<◌};
 ghost use Rattle.stand.specs.Cells.{is_empty, cell_of, moved};
-ghost use Rattle.stand.specs.Sides.{side_number, step_at, axes_at, face_answer, face_at};
+ghost use Rattle.stand.specs.Sides.{side_number, step_at, axes_at, face_at};
 
 use arith::saturate::saturating_add_i32;
 
 pub mod volume;
 
 // What a cell is made of: document 01's finish. 0 is empty.
-#[derive(Clone, Copy)]
+#[derive(Clone, Copy, PartialEq, Eq)]
 pub struct Voxel(pub u16);
 
 impl Voxel {
     // Absence.
+    // Kept: a constant for the empty finish, since cells are numbers in the C interface and document 01 makes 0 the empty one.
     pub const EMPTY: Self = Self(0);
 
     // Rules out "empty" for a finish, and "occupied" for EMPTY.
     pub fn is_empty(self) -> bool
         ensures { result ≡ is_empty self.0 }
     {
-        self.0 == Self::EMPTY.0
+        self == Self::EMPTY
     }
 }
 
 // A cell's address.
+// Kept: three numbers as Extent, Step and Point have, since the C interface tells cells from extents, and a C struct has no type parameter.
 #[repr(C)]
-#[derive(Clone, Copy)]
+#[derive(Clone, Copy, Default)]
 pub struct Cell {
     // East.
     pub x: i32,
@@ -46,6 +48,7 @@ impl Cell {
     }
 
     // This cell moved by whole steps, saturating at the i32 ends. Rules out wrapping, and a step along one axis alone.
+    #[tactic(auto, unfolding(crate::specs::Cells::moved))]
     pub fn offset(self, x: i32, y: i32, z: i32) -> Self
         ensures { result ≡ moved self x y z }
     {
@@ -57,7 +60,7 @@ impl Cell {
 }
 
 // A side of a cell.
-#[derive(Clone, Copy)]
+#[derive(Clone, Copy, PartialEq, Eq)]
 pub enum Face {
     // Toward +x.
     East,
@@ -74,6 +77,7 @@ pub enum Face {
 }
 
 // Whole steps along the three axes.
+// Kept: a step has the fields of a cell; one type for both would be no plainer, since it lets a cell stand where a step is meant.
 #[derive(Clone, Copy)]
 pub struct Step {
     pub x: i32,
@@ -82,6 +86,7 @@ pub struct Step {
 }
 
 // The axes of a side, 0 for x to 2 for z: its normal, and the first and second axis of its plane.
+// Kept: axes as numbers, since they are places in the eight numbers of a panel.
 #[derive(Clone, Copy)]
 pub struct Axes {
     pub normal: usize,
@@ -89,13 +94,8 @@ pub struct Axes {
     pub second: usize,
 }
 
-#[derive(Clone, Copy)]
-pub enum FaceAnswer {
-    Is(Face),
-    None,
-}
-
 // The sides by number.
+// Kept: a rule of the project asks for sides, steps and axes as tables of six, by side number.
 const SIDES: [Face; 6] = [
     Face::East,
     Face::West,
@@ -151,43 +151,32 @@ const AXES: [Axes; 6] = [
 
 impl Face {
     // The side of a number; none past 5. Rules out another order of the sides, and a side for 6.
-    pub fn at(side: usize) -> FaceAnswer
-        ensures { face_answer result ≡ face_at side }
+    // Kept: the port's own name and an Option; the only thing wrong with a number is that it is past 5.
+    pub fn at(side: usize) -> Option<Self>
+        ensures { result ≡ face_at side }
     {
-        if 6 <= side {
-            return FaceAnswer::None;
-        }
-        let f = SIDES[side];
-        FaceAnswer::Is(f)
+        SIDES.get(side).copied()
     }
 
     // The number of a side, 0 to 5. Rules out numbers from 1, and another order.
     pub fn number(self) -> usize
         ensures { (result ≡ side_number self) × (result < 6) }
     {
-        match self {
-            Face::East => 0,
-            Face::West => 1,
-            Face::Top => 2,
-            Face::Bottom => 3,
-            Face::North => 4,
-            Face::South => 5,
-        }
+        self as usize
     }
 
     // The step from a cell to the next one on this side. Rules out the opposite step, and one along another axis.
+    // Kept: this and `axes` are one index each, into tables of two types that a rule of the project asks for; a generic one would be the index alone.
     pub fn step(self) -> Step
         ensures { result ≡ step_at (side_number self) }
     {
-        let n = self.number();
-        STEPS[n]
+        STEPS[self.number()]
     }
 
     // Rules out the plane's axes in descending order, and the normal among them.
     pub fn axes(self) -> Axes
         ensures { result ≡ axes_at (side_number self) }
     {
-        let n = self.number();
-        AXES[n]
+        AXES[self.number()]
     }
 }

@@ -1,8 +1,7 @@
 // Document 01's trial program: calls as bytes on standard input, price lines and refusals on standard output.
 #![tactic(auto)]
 
-use interpreter::Machine;
-use interpreter::start::{no_rates, start};
+use interpreter::program::Program;
 use std::io;
 use std::io::{Read, Write};
 
@@ -11,57 +10,19 @@ mod turn;
 use turn::turn;
 
 // Makes the calls of a script, one after another, until it ends or one is broken.
-fn run_all<R: Read, W: Write>(
-    input: &mut R,
-    output: &mut W,
-    m: Machine,
-    cells: &mut [u16; 16384],
-    hashes: &mut [u64; 4],
-    versions: &mut [u32; 4],
-    log: &mut [u32; 4],
-    last: &mut [u64; 4],
-    rates: &mut [u32; 64],
-    mask: &mut [u16; 256],
-    sheet: &mut [u64; 12],
-) {
-    let mut machine = m;
-    // More calls than a script can have.
-    let mut left: u64 = 0xffff_ffff_ffff_ffff;
-    while 0 < left {
-        let t = turn(
-            input, output, machine, cells, hashes, versions, log, last, rates, mask, sheet,
-        );
-        if t.over {
+// Kept: like `quote`'s, but a turn there answers a fault with its line; shared, it would be a closure over reader, writer and program. Those two go side by side, here and in `turn`, since a struct of both is no shorter.
+fn run_all<R: Read, W: Write>(input: &mut R, output: &mut W, program: &mut Program) {
+    // Kept: a loop is proved to end, and a reader may go on for ever; no script has this many calls.
+    for _ in 0..u64::MAX {
+        if !turn(input, output, program) {
             return;
         }
-        machine = t.machine;
-        left -= 1;
     }
 }
 
 fn main(rt: HostRuntime) {
     let mut input = rt.stdin();
     let mut output = io::writer(&rt);
-    let mut cells = [0u16; 16384];
-    let mut hashes = [0u64; 4];
-    let mut versions = [0u32; 4];
-    let mut log = [0u32; 4];
-    let mut last = [0u64; 4];
-    let mut rates = no_rates();
-    let mut mask = [0u16; 256];
-    let mut sheet = [0u64; 12];
-    let m = start();
-    run_all(
-        &mut input,
-        &mut output,
-        m,
-        &mut cells,
-        &mut hashes,
-        &mut versions,
-        &mut log,
-        &mut last,
-        &mut rates,
-        &mut mask,
-        &mut sheet,
-    );
+    let mut program = Program::new();
+    run_all(&mut input, &mut output, &mut program);
 }

@@ -1,33 +1,24 @@
 // One call: read, made and answered.
-ghost use Rattle.std.specs.Prelude.{◌≡◌, ◌≤◌, max, length};
+ghost use Rattle.std.specs.Prelude.{◌≡◌, ◌≤◌, max, not, length};
 ghost use Rattle.interpreter.specs.Decode.{length_of};
 ghost use Rattle.interpreter.specs.Script.{is_broken};
 
+use interpreter::Reply;
 use interpreter::decode::call_length;
 use interpreter::line::write_line;
-use interpreter::step::step;
-use interpreter::{Machine, Reply};
+use interpreter::program::Program;
 use std::io::{Read, Write};
 
-// What is held after a call, and whether the script is over.
-#[derive(Clone, Copy)]
-pub(crate) struct Taken {
-    pub machine: Machine,
-    pub over: bool,
-}
-
 // The bytes to read of a call, its kind byte among them: that byte alone where the kind is unknown.
+// Kept: the kind is the byte as read, for the reason told at `call_length`.
 fn to_read(kind: u8) -> usize
     ensures { (result ≡ max 1 (length_of kind)) × (result ≤ 27) }
 {
-    let n = call_length(kind);
-    if n < 1 {
-        return 1;
-    }
-    n
+    call_length(kind).max(1)
 }
 
 // Reads until the list is full or the input ends; how many bytes are then at the list's start.
+// Kept: `read_exact` does not answer how many bytes there were, and a call cut short must be told from none; here and in the next two, list and count go as in `Read::read`.
 fn read_full<R: Read>(input: &mut R, bytes: &mut [u8]) -> usize
     ensures { result ≤ length bytes.new }
 {
@@ -43,13 +34,11 @@ fn read_full<R: Read>(input: &mut R, bytes: &mut [u8]) -> usize
 }
 
 // One read; 0 where the input ends or the read fails.
+// Kept: 0 is what `read` itself answers at the end, and a failed read ends the script alike; an Option would be a second way to say so.
 fn read_some<R: Read>(input: &mut R, bytes: &mut [u8]) -> usize
     ensures { result ≤ length bytes.new }
 {
-    match input.read(bytes) {
-        Ok(got) => got,
-        Err(_) => 0,
-    }
+    input.read(bytes).unwrap_or(0)
 }
 
 // Reads a call up to its nth byte, behind its kind; how many bytes it then has.
@@ -57,73 +46,38 @@ fn read_body<R: Read>(input: &mut R, bytes: &mut [u8], n: usize) -> usize
     requires { (1 ≤ n) × (n ≤ length bytes.old) }
     ensures { result ≤ n }
 {
-    let more = read_full(input, &mut bytes[1..n]);
-    more + 1
+    read_full(input, &mut bytes[1..n]) + 1
 }
 
 // Writes the line of a reply; a write that fails is passed over.
+// Kept: three lines, as in `quote`; shared, they would be a public call with a contract and edits of its own, and the line is bytes, not a Display, as told at `write_line`.
 fn print<W: Write>(output: &mut W, reply: Reply) {
     let mut out = [0u8; 96];
     let n = write_line(reply, &mut out);
-    match output.write_all(&out[..n]) {
-        Ok(_) => {}
-        Err(_) => {}
-    }
+    let _ = output.write_all(&out[..n]);
 }
 
-// Whether the script stops after a reply.
-fn ends(reply: Reply) -> bool
-    ensures { result ≡ is_broken reply }
+// Whether the script goes on after a reply.
+fn goes_on(reply: Reply) -> bool
+    ensures { result ≡ not (is_broken reply) }
 {
-    match reply {
-        Reply::Quiet => false,
-        Reply::Price(_, _) => false,
-        Reply::Refused(_) => false,
-        Reply::Broken => true,
-    }
+    !matches!(reply, Reply::Broken)
 }
 
+// Whether the script goes on after its next call.
+// Kept: an early return, since nothing else is done where there is no call.
 pub(crate) fn turn<R: Read, W: Write>(
     input: &mut R,
     output: &mut W,
-    m: Machine,
-    cells: &mut [u16; 16384],
-    hashes: &mut [u64; 4],
-    versions: &mut [u32; 4],
-    log: &mut [u32; 4],
-    last: &mut [u64; 4],
-    rates: &mut [u32; 64],
-    mask: &mut [u16; 256],
-    sheet: &mut [u64; 12],
-) -> Taken {
-    let mut kind = [0u8; 1];
-    let got = read_full(input, &mut kind);
-    if got == 0 {
-        return Taken {
-            machine: m,
-            over: true,
-        };
-    }
-    let k = kind[0];
+    program: &mut Program,
+) -> bool {
     let mut bytes = [0u8; 27];
-    bytes[0] = k;
-    let n = to_read(k);
+    if read_full(input, &mut bytes[..1]) == 0 {
+        return false;
+    }
+    let n = to_read(bytes[0]);
     let end = read_body(input, &mut bytes, n);
-    let t = step(
-        &bytes[..end],
-        m,
-        cells,
-        hashes,
-        versions,
-        log,
-        last,
-        rates,
-        mask,
-        sheet,
-    );
-    let reply = t.reply;
-    let machine = t.machine;
+    let reply = program.step(&bytes[..end]);
     print(output, reply);
-    let over = ends(reply);
-    Taken { machine, over }
+    goes_on(reply)
 }

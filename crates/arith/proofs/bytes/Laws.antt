@@ -4,7 +4,7 @@ use mathlib.Core.Bool.{false≢true}
 use lib.ListN.{get_or-eq_default}
 use lib.Signed.{mag}
 use Rattle.arith.proofs.Signed.{back}
-use Rattle.arith.specs.Level.{count_of, number_of, pattern_of}
+use Rattle.arith.specs.Level.{count_of, pattern_of}
 use Rattle.arith.specs.Bytes.{Bytes, byte_at, double_at, double_bytes, short_at, short_bytes, signed_of, word_at, word_bytes}
 
 -- ---- a list that is written out
@@ -154,7 +154,7 @@ signed_fits n h = by (ltb n 2147483648) refl
     by true e = record { sfits = ltb-true n 2147483648 e }
     by false e = let l = ltb-false n 2147483648 e in record { sfits = omega arith }
 
--- ---- for the code: past the end, and signed numbers by level
+-- ---- for the code: past the end, and what a call answered
 
 pub byte_none : (f : List ℕ) (at : ℕ) → length f ≤ at → byte_at f at ≡ 0
 byte_none f at h = get_or-eq_default f 0 h
@@ -174,12 +174,3 @@ double_none f at h = omega (arith, word_none f at h, word_none f (at + 4) (omega
 -- what a call answered, read back
 pub read : {z w : ℤ} → mag z < 2147483648 → z ≡ w → to_z w32 (of_z w32 z) ≡ w
 read {z} h e = back z h ∙ e
-
-module _ (n : ℕ) where
-  pub signed_low : n < 2147483648 → number_of (n + 2147483648) ≡ signed_of n
-  unfolding number_of signed_of
-  signed_low h = rw (le-ltb (n + 2147483648) 2147483648 (omega arith), lt-ltb n 2147483648 h) (ap pos (omega arith))
-
-  pub signed_high : 2147483648 ≤ n → n < 4294967296 → number_of (n - 2147483648) ≡ signed_of n
-  unfolding number_of signed_of
-  signed_high h b = rw (lt-ltb (n - 2147483648) 2147483648 (omega arith), le-ltb n 2147483648 h) (ap negsuc (omega arith))

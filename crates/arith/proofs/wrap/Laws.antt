@@ -1,6 +1,6 @@
 -- Sums and products modulo 2 ^ 64 that are one to one: adding a constant, and multiplying by a number that has an inverse.
-use Rattle.std.proofs.Common.{◌≡◌, ℕ, ◌+◌, ◌*◌, ◌/◌, ◌%◌, ◌^◌, ◌<◌, sym, ap, ◌∙◌, mod-lt, mod-eq_of_lt, mul_assoc, mul_comm, add-mul, div-add-mod', mul-one, mul_right_comm, arith, pow_pos}
-use native.Mathlib.Nat.{mul-add-mod_self_right}
+use Rattle.std.proofs.Common.{◌≡◌, ℕ, ◌+◌, ◌*◌, ◌%◌, ◌^◌, ◌<◌, sym, ap, ◌∙◌, mod-lt, mod-eq_of_lt, mul_assoc, mul-one, arith, pow_pos}
+use Rattle.std.proofs.lemmas.Nat.{mul-mod_first, mul-mod_second}
 use Rattle.arith.specs.Wrap.{mul64}
 
 pub mul-lt : (a c : ℕ) → mul64 a c < 2 ^ 64
@@ -10,23 +10,13 @@ mul-lt a c = mod-lt (a * c) (pow_pos 64)
 pub add_inj : (c a b : ℕ) → a < 2 ^ 64 → b < 2 ^ 64 → c < 2 ^ 64 → (a + c) % 2 ^ 64 ≡ (b + c) % 2 ^ 64 → a ≡ b
 add_inj c a b la lb lc e = omega arith
 
--- a factor may be taken modulo m first
-times_mod : (a b m : ℕ) → (a % m * b) % m ≡ (a * b) % m
-times_mod a b m =
-    sym (ap (λ (n : ℕ). (n * b) % m) (sym (div-add-mod' a m))
-    ∙ ap (λ (n : ℕ). n % m) (add-mul (a / m * m) (a % m) b ∙ ap (λ (n : ℕ). n + a % m * b) (mul_right_comm (a / m) m b))
-    ∙ mul-add-mod_self_right (a / m * b) m (a % m * b))
-
-mod_times : (a b m : ℕ) → (a * (b % m)) % m ≡ (a * b) % m
-mod_times a b m = ap (λ (n : ℕ). n % m) (mul_comm a (b % m)) ∙ times_mod b a m ∙ ap (λ (n : ℕ). n % m) (mul_comm b a)
-
 -- c and d are inverse: a product by c is undone by d
 mul_undo : (c d a : ℕ) → mul64 c d ≡ 1 → a < 2 ^ 64 → mul64 (mul64 a c) d ≡ a
 unfolding mul64
 mul_undo c d a u l =
-    times_mod (a * c) d (2 ^ 64)
+    mul-mod_first (a * c) d (2 ^ 64)
     ∙ ap (λ (n : ℕ). n % 2 ^ 64) (mul_assoc a c d)
-    ∙ sym (mod_times a (c * d) (2 ^ 64))
+    ∙ sym (mul-mod_second a (c * d) (2 ^ 64))
     ∙ ap (λ (n : ℕ). (a * n) % 2 ^ 64) u
     ∙ ap (λ (n : ℕ). n % 2 ^ 64) (mul-one a)
     ∙ mod-eq_of_lt l

@@ -1,28 +1,28 @@
 -- One pass over the records gives the digest.
-use mathlib.Core.Path.{◌≡◌, refl, sym, ap, ◌∙◌, subst}
-use mathlib.Core.Bool.{Bool, true, false, cond}
-use mathlib.Core.List.{List, [], ◌∷◌}
-use Prim.Native.Nat.{ℕ, zero, suc, ◌+◌, ◌-◌, ◌*◌, ◌/◌, ◌%◌, ◌<◌, ◌≤◌}
-use native.Mathlib.Numerals.{add-one}
-use native.Mathlib.Omega.{arith}
-use borrow.Author.Tests.{eq-eqb, eqb-false, eqb-true, ne_eqb}
-use lib.Dec.{eqb}
-use lib.ListN.{drop, get_or, length, length-replicate, length-set, replicate, set}
-use lib.Seq.{drop-cons, drop-length, get_or-set_other, get_or-set_same}
+use Rattle.std.proofs.Common.{◌≡◌, ℕ, zero, suc, ◌+◌, ◌-◌, ◌*◌, ◌/◌, ◌%◌, ◌<◌, ◌≤◌, Bool, true, false, cond, List, [], ◌∷◌, eqb, drop, get_or, length, replicate, set, sym, refl, ap, ◌∙◌, subst, add-one, arith, drop-cons, length-set, get_or-set_same, eq-eqb, eqb-true}
+use borrow.Author.Tests.{eqb-false, ne_eqb}
+use lib.ListN.{length-replicate}
+use lib.Seq.{drop-length, get_or-set_other}
 use Rattle.stand.specs.Edit.{toggled}
 use Rattle.stand.specs.Hash.{digest_of, digest_start, fold_word, fold_words, shape_words}
-use Rattle.stand.specs.Shape.{Shape, sections}
+use Rattle.stand.specs.Shape.{Shape, sections, shape_of, well_formed}
 use Rattle.stand.specs.Storage.{volume_of}
+use Rattle.stand.specs.declared.volume.Volume.{Volume}
 use Rattle.stand.proofs.Hash.{folds_append}
 use Rattle.stand.proofs.Kept.{zeros}
+use Rattle.stand.proofs.Opened.{shape_words_lem}
 use Rattle.stand.proofs.Tests.{by-test}
 use Rattle.form.specs.Entries.{Entry, digest_with, mixed}
 use Rattle.form.specs.Form.{entries_at, entry_in}
-use Rattle.form.specs.Inner.{Asc, Each, record_at, run_from, run_of}
+use Rattle.form.specs.Inner.{Asc, Each, Ordered, record_at, run_from, run_of}
 use Rattle.form.specs.declared.digest.Run.{Run}
 use Rattle.form.proofs.Loaded.{mixed-length}
 
 -- ---- hashes by section
+
+-- those of a fresh stand with the first n records taken in
+abbrev pub hashes_of : Shape → List ℕ → ℕ → List ℕ
+hashes_of g f n = mixed (entries_at f 25 n) (replicate (sections g) 0)
 
 -- the hash h of section i, with the terms of the entries that lie in it
 unfoldable pub hashed : List Entry → ℕ → ℕ → ℕ
@@ -115,74 +115,71 @@ ran f i (suc m) k h low l a = go (eqb i ((entry_in f (record_at k)).slot / 4096)
 
 -- ---- the pass: sections below i folded in, records below k read
 
-pub record Streams (f : List ℕ) (n : ℕ) (hs : List ℕ) (start i k acc : ℕ) : Type 0 where
+pub record Streams (f : List ℕ) (n : ℕ) (g : Shape) (start i k acc : ℕ) : Type 0 where
   pub few : k ≤ n
-  pub folded : fold_words acc (drop i hs) ≡ fold_words start hs
+  pub folded : fold_words acc (drop i (hashes_of g f n)) ≡ fold_words start (hashes_of g f n)
   pub asc : Asc (i * 4096) (entries_at f (record_at k) (n - k))
-  pub hashes : (j : ℕ) → i ≤ j → j < length hs → hashed (entries_at f (record_at k) (n - k)) j 0 ≡ get_or hs j 0
+  pub hashes : (j : ℕ) → i ≤ j → j < sections g → hashed (entries_at f (record_at k) (n - k)) j 0 ≡ get_or (hashes_of g f n) j 0
 
-pub streams_more : {f : List ℕ} {n : ℕ} {hs : List ℕ} {start i k acc : ℕ} → Streams f n hs start i k acc → i < length hs
-    → Streams f n hs start (i + 1) (run_from f i k 0 (n - k)).next (fold_word acc (run_from f i k 0 (n - k)).hash)
+hashes-count : (g : Shape) (f : List ℕ) (n : ℕ) → length (hashes_of g f n) ≡ sections g
+hashes-count g f n = mixed-length (entries_at f 25 n) (replicate (sections g) 0) ∙ length-replicate {A = ℕ} (sections g) 0
+
+pub streams_none : (f : List ℕ) (n : ℕ) (g : Shape) {start : ℕ} → Ordered g (entries_at f 25 n) → Streams f n g start 0 0 start
+streams_none f n g {start} o =
+    let z : n ≡ n - 0 = omega arith in
+    let m = sections g in
+    record {
+      few = omega arith;
+      folded = refl;
+      asc = subst (λ (m : ℕ). Asc 0 (entries_at f 25 m)) z o.ascending;
+      hashes = λ j x y.
+          ap (λ (m : ℕ). hashed (entries_at f 25 m) j 0) (sym z)
+          ∙ sym (mixed-at m (entries_at f 25 n) (replicate m 0) (length-replicate {A = ℕ} m 0) o.below j y
+          ∙ ap (hashed (entries_at f 25 n) j) (zeros m j));
+    }
+
+pub streams_more : {f : List ℕ} {n : ℕ} {g : Shape} {start i k acc a : ℕ} {t : Run} → Streams f n g start i k acc → i < sections g
+    → t ≡ run_from f i k 0 (n - k) → a ≡ fold_word acc t.hash → Streams f n g start (i + 1) t.next a
 unfolding fold_words
-streams_more {f} {n} {hs} {start} {i} {k} {acc} s l =
-    let r = ran f i (n - k) k 0 (i * 4096) (omega arith) s.asc in
-    let t = run_from f i k 0 (n - k) in
+streams_more {f} {n} {g} {start} {i} {k} {acc} {a} {t} s l et ea =
+    let r : Ran f i k 0 (n - k) t = subst (Ran f i k 0 (n - k)) (sym et) (ran f i (n - k) k 0 (i * 4096) (omega arith) s.asc) in
+    let hs = hashes_of g f n in
     let m : k + (n - k) ≡ n = omega (arith, s.few) in
     let up : i * 4096 + 4096 ≡ (i + 1) * 4096 = omega arith in
-    let e : get_or hs i 0 ≡ t.hash = sym (s.hashes i (omega arith) l) ∙ r.hash in
+    let e : t.hash ≡ get_or hs i 0 = sym (sym (s.hashes i (omega arith) l) ∙ r.hash) in
     record {
       few = omega (arith, r.high, s.few);
-      folded = (λ j. fold_words (fold_word acc (sym e j)) (drop (add-one i j) hs)) ∙ ap (fold_words acc) (sym (drop-cons hs i 0 l)) ∙ s.folded;
+      folded = (λ j. fold_words ((ea ∙ ap (fold_word acc) e) j) (drop (add-one i j) hs)) ∙ ap (fold_words acc) (sym (drop-cons hs i 0 (omega (arith, hashes-count g f n)))) ∙ s.folded;
       asc = subst (λ (c : ℕ). Asc c (entries_at f (record_at t.next) (n - t.next))) up (subst (λ (c : ℕ). Asc (i * 4096 + 4096) (entries_at f (record_at t.next) (c - t.next))) m r.later);
       hashes = λ j a b. ap (λ (c : ℕ). hashed (entries_at f (record_at t.next) (c - t.next)) j 0) (sym m) ∙ sym (r.others j 0 (omega arith)) ∙ s.hashes j (omega arith) b;
     }
 
-pub streams_none : (f : List ℕ) (n m : ℕ) {start : ℕ} → Asc 0 (entries_at f 25 n) → Each (λ e. e.slot < m * 4096) (entries_at f 25 n)
-    → Streams f n (mixed (entries_at f 25 n) (replicate m 0)) start 0 0 start
-streams_none f n m {start} a b =
-    let z : n ≡ n - 0 = omega arith in
-    record {
-      few = omega arith;
-      folded = refl;
-      asc = subst (λ (m : ℕ). Asc 0 (entries_at f 25 m)) z a;
-      hashes = λ j x y.
-          ap (λ (m : ℕ). hashed (entries_at f 25 m) j 0) (sym z)
-          ∙ sym (mixed-at m (entries_at f 25 n) (replicate m 0) (length-replicate {A = ℕ} m 0) b j (omega (arith, y, mixed-length (entries_at f 25 n) (replicate m 0), length-replicate {A = ℕ} m 0))
-          ∙ ap (hashed (entries_at f 25 n) j) (zeros m j));
-    }
-
-pub hashes-count : (es : List Entry) (m : ℕ) → length (mixed es (replicate m 0)) ≡ m
-hashes-count es m = mixed-length es (replicate m 0) ∙ length-replicate {A = ℕ} m 0
-
-pub streams_all : (f : List ℕ) (n : ℕ) (g : Shape) (m : ℕ) {start i k acc : ℕ}
-    → Streams f n (mixed (entries_at f 25 n) (replicate m 0)) start i k acc → m ≡ sections g → start ≡ fold_words digest_start (shape_words (volume_of g 0 0)) → i ≡ m
-    → acc ≡ digest_with g (entries_at f 25 n)
+pub streams_all : {f : List ℕ} {n : ℕ} {start i k acc : ℕ} (v : Volume) → Streams f n (shape_of v) start i k acc → well_formed v ≡ true
+    → start ≡ fold_words digest_start (shape_words v) → i ≡ sections (shape_of v) → acc ≡ digest_with (shape_of v) (entries_at f 25 n)
 unfolding digest_with digest_of fold_words
-streams_all f n g m {start} {i} {k} {acc} s em es e =
-    let hs : List ℕ = mixed (entries_at f 25 n) (replicate m 0) in
-    let l : i ≡ length hs = e ∙ sym (hashes-count (entries_at f 25 n) m) in
-    let d : drop i hs ≡ [] = ap (λ (m : ℕ). drop m hs) l ∙ drop-length hs in
-    sym (ap (fold_words acc) d) ∙ s.folded ∙ (λ j. fold_words (es j) (mixed (entries_at f 25 n) (replicate (em j) 0)))
-    ∙ sym (folds_append digest_start (shape_words (volume_of g 0 0)) (mixed (entries_at f 25 n) (replicate (sections g) 0)))
+streams_all {f} {n} {start} {i} {k} {acc} v s ok es e =
+    let g = shape_of v in
+    let hs : List ℕ = hashes_of g f n in
+    let d : drop i hs ≡ [] = ap (λ (m : ℕ). drop m hs) (e ∙ sym (hashes-count g f n)) ∙ drop-length hs in
+    sym (ap (fold_words acc) d) ∙ s.folded ∙ ap (λ (a : ℕ). fold_words a hs) (es ∙ ap (fold_words digest_start) (shape_words_lem v ok))
+    ∙ sym (folds_append digest_start (shape_words (volume_of g 0 0)) hs)
 
 -- ---- for the code: a run, record by record
 
 module _ (f : List ℕ) (i n k h : ℕ) where
-  run-turn : k < n → run_from f i k h (n - k)
-      ≡ cond (eqb i ((entry_in f (record_at k)).slot / 4096)) (run_from f i (k + 1) (toggled ((entry_in f (record_at k)).slot % 4096) (entry_in f (record_at k)).finish h) (n - (k + 1))) (run_of k h)
+  pub run_stop : k < n → ((entry_in f (record_at k)).slot / 4096 ≡ i → ⊥) → run_from f i k h (n - k) ≡ run_of k h
   unfolding run_from
-  run-turn l = let s : n - k ≡ suc (n - (k + 1)) = omega arith in ap (run_from f i k h) s
+  run_stop l d =
+      let s : n - k ≡ suc (n - (k + 1)) = omega arith in
+      ap (run_from f i k h) s ∙ rw (ne_eqb i ((entry_in f (record_at k)).slot / 4096) (λ q. d (sym q)))
 
-  pub run_stop : k < n → {s : ℕ} → s ≡ (entry_in f (record_at k)).slot → (s / 4096 ≡ i → ⊥) → run_of k h ≡ run_from f i k h (n - k)
-  run_stop l {s} e d = sym (run-turn l ∙ rw (ne_eqb i ((entry_in f (record_at k)).slot / 4096) (λ q. d (ap (λ (x : ℕ). x / 4096) e ∙ sym q))))
-
-  pub run_on : k < n → {s v x : ℕ} → s ≡ (entry_in f (record_at k)).slot → s / 4096 ≡ i → v ≡ (entry_in f (record_at k)).finish → x ≡ toggled (s % 4096) v h
-      → run_from f i (k + 1) x (n - (k + 1)) ≡ run_from f i k h (n - k)
-  run_on l {s} {v} {x} e q ev ex =
-      let t : x ≡ toggled ((entry_in f (record_at k)).slot % 4096) (entry_in f (record_at k)).finish h = ex ∙ (λ j. toggled (e j % 4096) (ev j) h) in
-      ap (λ (y : ℕ). run_from f i (k + 1) y (n - (k + 1))) t
-      ∙ sym (run-turn l ∙ rw (eq-eqb i ((entry_in f (record_at k)).slot / 4096) (sym q ∙ ap (λ (y : ℕ). y / 4096) e)))
-
-  pub run_end : n ≤ k → run_of k h ≡ run_from f i k h (n - k)
+  pub run_on : k < n → (entry_in f (record_at k)).slot / 4096 ≡ i
+      → run_from f i k h (n - k) ≡ run_from f i (k + 1) (toggled ((entry_in f (record_at k)).slot % 4096) (entry_in f (record_at k)).finish h) (n - (k + 1))
   unfolding run_from
-  run_end l = let z : n - k ≡ 0 = omega arith in sym (ap (run_from f i k h) z)
+  run_on l q =
+      let s : n - k ≡ suc (n - (k + 1)) = omega arith in
+      ap (run_from f i k h) s ∙ rw (eq-eqb i ((entry_in f (record_at k)).slot / 4096) (sym q))
+
+  pub run_end : n ≤ k → run_from f i k h (n - k) ≡ run_of k h
+  unfolding run_from
+  run_end l = let z : n - k ≡ 0 = omega arith in ap (run_from f i k h) z

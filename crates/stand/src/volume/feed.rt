@@ -1,118 +1,92 @@
 // Which chunks changed since a mark.
-ghost use Rattle.std.specs.Prelude.{◌≡◌, ◌-◌, ◌≤◌, length};
-ghost use Rattle.stand.specs.Answer.{number_answer};
-ghost use Rattle.stand.specs.Feed.{chunk_step, changed_since, changed_step, feed_refusal, gave, next_from, next_after, with_given};
-ghost use Rattle.stand.specs.Refusal.{gives};
+ghost use Rattle.std.specs.Prelude.{◌≡◌, ◌-◌, ◌≤◌, IfOk, length};
+ghost use Rattle.stand.specs.Answer.{answer_of, code_of};
+ghost use Rattle.stand.specs.Feed.{changed_since, changed_step, feed_refusal, next_from};
+ghost use Rattle.stand.specs.Lent.{given_by, step_answer};
 
 use crate::volume::Volume;
-use crate::volume::answer::NumberAnswer;
-use crate::volume::shape::{chunk_total, is_well_formed};
+use crate::volume::formed::Formed;
+use crate::volume::refusal::Refusal;
 
-// One step of the walk over changed chunks: the chunk, and the generation that gave it.
+// The change log, and the generation of each chunk's last change.
 #[derive(Clone, Copy)]
-pub enum ChunkStep {
-    Chunk(u64, u64),
-    End,
-    Refused(u32),
+pub struct Changes<'a, 'b> {
+    pub log: &'a [u32],
+    pub last: &'b [u64],
 }
 
-// The refusal of a walk from a mark over lists of these lengths, 0 for none.
-pub(crate) fn feed_code(v: Volume, log: usize, last: usize, mark: u64) -> u32
-    ensures { result ≡ feed_refusal v log last mark }
-{
-    if !is_well_formed(v) {
-        return 3;
-    }
-    let n = chunk_total(v);
-    if log as u64 != n {
-        return 4;
-    }
-    if last as u64 != n {
-        return 4;
-    }
-    if v.generation < mark {
-        return 8;
-    }
-    let too_old = n < v.generation - mark;
-    if too_old {
-        return 9;
-    }
-    0
+// A chunk that the walk over changed chunks gives, and the generation that gave it.
+#[derive(Clone, Copy)]
+pub struct Changed {
+    pub chunk: u64,
+    pub generation: u64,
 }
 
-fn wide(x: u32) -> usize
-    ensures { result ≡ x }
-{
-    x as usize
-}
+impl<'a, 'b> Changes<'a, 'b> {
+    // The header, known to be one that opening gives and whose changes since a mark can be told; refuses by 3, 4, 8 and 9.
+    #[tactic(auto, unfolding(crate::specs::Feed::feed_refusal, crate::specs::Refusal::first))]
+    pub(crate) fn check(self, v: Volume, mark: u64) -> Result<Formed, Refusal>
+        ensures code { code_of result ≡ feed_refusal v (length self.entry.log.now) (length self.entry.last.now) mark }
+        ensures same { IfOk result (λ f. f.volume ≡ v) }
+    {
+        let header = v.formed()?;
+        let n = header.chunk_total();
+        if self.log.len() as u64 != n || self.last.len() as u64 != n {
+            return Err(Refusal::WrongLength);
+        }
+        if v.generation < mark {
+            return Err(Refusal::MarkAhead);
+        }
+        let too_old = n < v.generation - mark;
+        if too_old {
+            return Err(Refusal::MarkTooOld);
+        }
+        Ok(header)
+    }
 
-// The first chunk that the generations after `next` give.
-fn next_changed(log: &[u32], last: &[u64], next: u64, generation: u64) -> ChunkStep
-    requires { (1 ≤ length log.now) × (length last.now ≡ length log.now) }
-    ensures { chunk_step result ≡ gives (next_from (length log.now) log.now last.now next (generation - next)) }
-{
-    let n = log.len() as u64;
-    let mut g = next;
-    while g < generation {
-        let slot = (g % n) as usize;
-        let chunk = wide(log[slot]);
-        g += 1;
-        if chunk < last.len() {
-            if last[chunk] == g {
-                return ChunkStep::Chunk(chunk as u64, g);
+    // The first chunk that the generations after `next` give.
+    // Kept: sheet's `given` asks the same of one generation; one for both would be open and need a log of an entry at least, and no open function has a requires.
+    #[tactic(auto, unfolding(crate::specs::Feed::logged), using(crate::proofs::Feed::found, crate::proofs::Feed::passed, crate::proofs::Feed::ended))]
+    fn next_changed(self, next: u64, generation: u64) -> Option<Changed>
+        requires { (1 ≤ length self.log.now) × (length self.last.now ≡ length self.log.now) }
+        ensures { given_by result ≡ next_from (length self.entry.log.now) self.entry.log.now self.entry.last.now next (generation - next) }
+    {
+        let n = self.log.len() as u64;
+        for g in next..generation {
+            let slot = (g % n) as usize;
+            let chunk = self.log[slot] as usize;
+            if chunk < self.last.len() && self.last[chunk] == g + 1 {
+                return Some(Changed {
+                    chunk: chunk as u64,
+                    generation: g + 1,
+                });
             }
         }
+        None
     }
-    ChunkStep::End
-}
-
-// The generation at which a walk that stood at `next` stands after a step.
-pub(crate) fn next_after(step: ChunkStep, next: u64) -> u64
-    ensures { result ≡ next_after (chunk_step step) next }
-{
-    match step {
-        ChunkStep::Chunk(_, generation) => generation,
-        ChunkStep::End => next,
-        ChunkStep::Refused(_) => next,
-    }
-}
-
-// Whether a step gives a chunk; it is put at a place of a list, where the list has room.
-pub(crate) fn put_given(step: ChunkStep, at: usize, out: &mut [u64]) -> bool
-    ensures { (result ≡ gave (chunk_step step)) × (out.new ≡ with_given (chunk_step step) at out.old) }
-{
-    let chunk = match step {
-        ChunkStep::Chunk(chunk, _) => chunk,
-        ChunkStep::End => return false,
-        ChunkStep::Refused(_) => return false,
-    };
-    if out.len() <= at {
-        return true;
-    }
-    out[at] = chunk;
-    true
 }
 
 impl Volume {
-    // Whether the chunks changed since a mark can be told: where their walk starts. Rules out "too old" for a lag equal to the chunk count, and a mark ahead.
-    pub fn changed_since(self, log: &[u32], last: &[u64], mark: u64) -> NumberAnswer
-        ensures { number_answer result ≡ changed_since self log.now last.now mark }
+    // Whether the chunks changed since a mark can be told: where their walk starts; refuses by 3, 4, 8 and 9. Rules out "too old" for a lag equal to the chunk count, and a mark ahead.
+    // Kept: this, `changed_step` and `walk_changed` are public calls of their own, each one line after the same `check`.
+    #[tactic(auto, unfolding(crate::specs::Refusal::answer, crate::specs::Feed::changed_since), using(crate::proofs::Refusal::accepted))]
+    pub fn changed_since(self, changes: Changes<'_, '_>, mark: u64) -> Result<u64, Refusal>
+        ensures { answer_of result ≡ changed_since self changes.entry.log.now changes.entry.last.now mark }
     {
-        let code = feed_code(self, log.len(), last.len(), mark);
-        if code != 0 {
-            return NumberAnswer::Refused(code);
-        }
-        NumberAnswer::Is(mark)
+        changes.check(self, mark)?;
+        Ok(mark)
     }
 
-    // The next chunk of that walk, and the generation to go on from. Rules out an end before the first chunk, and a chunk given twice.
-    pub fn changed_step(self, log: &[u32], last: &[u64], next: u64) -> ChunkStep
-        ensures { chunk_step result ≡ changed_step self log.now last.now next }
+    // The next chunk of that walk, if there is one, and the generation to go on from; refuses by 3, 4, 8 and 9. Rules out an end before the first chunk, and a chunk given twice.
+    #[tactic(auto, unfolding(crate::specs::Refusal::answer, crate::specs::Feed::changed_step), using(crate::proofs::Refusal::accepted, crate::proofs::Feed::fed, crate::proofs::Feed::fed_some))]
+    pub fn changed_step(
+        self,
+        changes: Changes<'_, '_>,
+        next: u64,
+    ) -> Result<Option<Changed>, Refusal>
+        ensures { step_answer result ≡ changed_step self changes.entry.log.now changes.entry.last.now next }
     {
-        let code = feed_code(self, log.len(), last.len(), next);
-        if code != 0 {
-            return ChunkStep::Refused(code);
-        }
-        next_changed(log, last, next, self.generation)
+        changes.check(self, next)?;
+        Ok(changes.next_changed(next, self.generation))
     }
 }

@@ -1,268 +1,162 @@
 // Filling a box.
-ghost use Rattle.std.specs.Prelude.{◌≡◌, ◌*◌, ◌<◌, ◌≤◌};
-ghost use Rattle.stand.specs.Answer.{number_answer};
+ghost use Rattle.std.specs.Prelude.{◌≡◌, ◌+◌, ◌*◌, ◌<◌, ◌≤◌};
 ghost use Rattle.stand.specs.Edit.{edited_of, set_def};
-ghost use Rattle.stand.specs.Fill.{Fillable, Spanned, below_at, common_of, fill_call, plane_cells, row_cells, set_each, solid_cells};
+ghost use Rattle.stand.specs.Fill.{Fillable, Spanned, SpannedSome, below_at, common_of, fill_call, plane_cells, row_cells, set_each, solid_cells};
+ghost use Rattle.stand.specs.Lent.{Kept, edit_outcome, stand_in};
 ghost use Rattle.stand.specs.Shape.{cell_from, shape_of};
-ghost use Rattle.stand.specs.Storage.{outcome_of, state_of};
 
 use crate::volume::Volume;
-use crate::volume::answer::{FillDone, NumberAnswer};
-use crate::volume::edit::{Edit, put_at};
-use crate::volume::shape::{Common, Point, Region, counts, levels, slot_at};
-use crate::volume::storage::storage_code;
+use crate::volume::edit::{Edited, put_at};
+use crate::volume::refusal::Refusal;
+use crate::volume::shape::{Point, Region, Span, counts, levels, reach_of, slot_at};
+use crate::volume::storage::Storage;
 use crate::{Cell, Voxel};
 
-// One axis of a region.
-#[derive(Clone, Copy)]
-pub(crate) struct Span {
-    pub low: u64,
-    pub count: u64,
-}
+impl Span {
+    // How many of its cells lie below c, by levels.
+    #[tactic(auto, unfolding(crate::specs::Fill::below_at))]
+    fn below(self, c: u64) -> u64
+        ensures { result ≡ below_at self.low self.count c }
+    {
+        c.saturating_sub(self.low).min(self.count)
+    }
 
-// How many of n cells from o on lie below c, by levels.
-fn below_on(o: u64, n: u64, c: u64) -> u64
-    ensures { result ≡ below_at o n c }
-{
-    if c < o {
-        return 0;
+    // Of its cells those from the lower of two coordinates to the higher, both in it, by levels; their first by its distance.
+    #[tactic(auto, unfolding(crate::specs::Fill::below_at))]
+    fn between(self, a: u64, b: u64) -> Span
+        requires { (a < 4294967296) × (b < 4294967296) }
+        ensures { Spanned self.low self.count a b result.low result.count }
+    {
+        let low = self.below(a.min(b));
+        let past = self.below(a.max(b) + 1);
+        Span {
+            low,
+            count: past - low,
+        }
     }
-    let d = c - o;
-    if d < n {
-        return d;
-    }
-    n
-}
 
-// The cells from the lower of two coordinates to the higher, both in it, of n cells from o on, by levels.
-fn span_on(o: u64, n: u64, a: u64, b: u64) -> Span
-    requires { (a < 4294967296) × (b < 4294967296) }
-    ensures { Spanned o n a b result.low result.count }
-{
-    if a <= b {
-        let p = below_on(o, n, a);
-        let q = below_on(o, n, b + 1);
-        return Span {
-            low: p,
-            count: q - p,
-        };
-    }
-    let p = below_on(o, n, b);
-    let q = below_on(o, n, a + 1);
-    Span {
-        low: p,
-        count: q - p,
+    // The same, if it has a cell.
+    fn some_between(self, a: u64, b: u64) -> Option<Span>
+        requires { (a < 4294967296) × (b < 4294967296) }
+        ensures { SpannedSome self.low self.count a b result }
+    {
+        let span = self.between(a, b);
+        if span.count == 0 { None } else { Some(span) }
     }
 }
 
-// The common part of the box between two corners and the stand, or none.
-fn box_of(v: Volume, a: Cell, b: Cell) -> Common
+// The common part of the box between two corners and the stand, if there is one.
+#[tactic(auto, using(crate::proofs::Box::box_laws))]
+fn box_of(v: Volume, a: Cell, b: Cell) -> Option<Region>
     ensures { result ≡ common_of (shape_of v) a b }
 {
-    let origin = v.origin;
-    let size = v.size;
-    let o = levels(origin);
-    let n = counts(size);
+    let s = reach_of(v);
     let p = levels(a);
     let q = levels(b);
-    let x = span_on(o.x, n.x, p.x, q.x);
-    if x.count == 0 {
-        return Common::None;
-    }
-    let y = span_on(o.y, n.y, p.y, q.y);
-    if y.count == 0 {
-        return Common::None;
-    }
-    let z = span_on(o.z, n.z, p.z, q.z);
-    if z.count == 0 {
-        return Common::None;
-    }
-    let low = Point {
-        x: x.low,
-        y: y.low,
-        z: z.low,
-    };
-    let count = Point {
-        x: x.count,
-        y: y.count,
-        z: z.count,
-    };
-    Common::Is(Region { low, count })
+    let x = s.x.some_between(p.x, q.x)?;
+    let y = s.y.some_between(p.y, q.y)?;
+    let z = s.z.some_between(p.z, q.z)?;
+    Some(Region {
+        low: Point {
+            x: x.low,
+            y: y.low,
+            z: z.low,
+        },
+        count: Point {
+            x: x.count,
+            y: y.count,
+            z: z.count,
+        },
+    })
 }
 
-// The cell at distances d takes a finish.
-fn put_spot(
-    v: Volume,
-    cells: &mut [u16],
-    hashes: &mut [u64],
-    versions: &mut [u32],
-    log: &mut [u32],
-    last: &mut [u64],
-    d: Point,
-    finish: u16,
-) -> Edit
-    requires { Fillable (state_of v cells.old hashes.old versions.old log.old last.old) d 1 1 1 }
-    ensures { (edited_of result.count (state_of result.volume cells.new hashes.new versions.new log.new last.new) ≡ set_def (state_of v cells.old hashes.old versions.old log.old last.old) (cell_from (shape_of v) d) finish) × (result.count ≤ 1) }
+// The cell at distances d takes a finish; how many cells changed.
+// Kept: `Fillable`, here and in the next three, speaks of a box and of the header and lists that are lent beside it, so that no one type can hold it.
+#[tactic(auto, using(crate::proofs::Fill::spot_set))]
+fn put_spot(v: &mut Volume, s: &mut Storage, d: Point, finish: u16) -> u64
+    requires { Fillable (stand_in v.old s.old) d 1 1 1 }
+    ensures put { edited_of result (stand_in v.new s.new) ≡ set_def (stand_in v.old s.old) (cell_from (shape_of v.old) d) finish }
+    ensures one { result ≤ 1 }
+    ensures kept { Kept s.old s.new }
 {
-    let chunks = v.chunks;
-    let k = counts(chunks);
-    let i = slot_at(k, d);
-    put_at(v, cells, hashes, versions, log, last, i, finish)
+    let i = slot_at(counts(v.chunks), d);
+    put_at(v, s, i, finish)
 }
 
-// n cells along x from distances p on take a finish.
-fn fill_row(
-    v: Volume,
-    cells: &mut [u16],
-    hashes: &mut [u64],
-    versions: &mut [u32],
-    log: &mut [u32],
-    last: &mut [u64],
-    p: Point,
-    n: u64,
-    finish: u16,
-) -> Edit
-    requires { Fillable (state_of v cells.old hashes.old versions.old log.old last.old) p n 1 1 }
-    ensures { (edited_of result.count (state_of result.volume cells.new hashes.new versions.new log.new last.new) ≡ set_each (edited_of 0 (state_of v cells.old hashes.old versions.old log.old last.old)) (row_cells (shape_of v) p n) finish) × (result.count ≤ n) }
+// n cells along x from distances p on take a finish; how many cells changed.
+// Kept: three loops, one inside the other along x, y and z; one over all cells would divide to find each place.
+#[tactic(auto, using(crate::proofs::Fill::loop_laws))]
+fn fill_row(v: &mut Volume, s: &mut Storage, p: Point, n: u64, finish: u16) -> u64
+    requires { Fillable (stand_in v.old s.old) p n 1 1 }
+    ensures put { edited_of result (stand_in v.new s.new) ≡ set_each (edited_of 0 (stand_in v.old s.old)) (row_cells (shape_of v.old) p n) finish }
+    ensures most { result ≤ n }
+    ensures kept { Kept s.old s.new }
 {
-    let mut head = v;
-    let mut count: u64 = 0;
-    let mut i: u64 = 0;
-    while i < n {
-        let d = Point {
-            x: p.x + i,
-            y: p.y,
-            z: p.z,
-        };
-        let e = put_spot(head, cells, hashes, versions, log, last, d, finish);
-        head = e.volume;
-        count += e.count;
-        i += 1;
+    let mut count = 0;
+    for i in 0..n {
+        let d = Point { x: p.x + i, ..p };
+        count += put_spot(v, s, d, finish);
     }
-    Edit {
-        count,
-        volume: head,
-    }
+    count
 }
 
 // m rows of n cells, along y.
-fn fill_plane(
-    v: Volume,
-    cells: &mut [u16],
-    hashes: &mut [u64],
-    versions: &mut [u32],
-    log: &mut [u32],
-    last: &mut [u64],
-    p: Point,
-    n: u64,
-    m: u64,
-    finish: u16,
-) -> Edit
-    requires { Fillable (state_of v cells.old hashes.old versions.old log.old last.old) p n m 1 }
-    ensures { (edited_of result.count (state_of result.volume cells.new hashes.new versions.new log.new last.new) ≡ set_each (edited_of 0 (state_of v cells.old hashes.old versions.old log.old last.old)) (plane_cells (shape_of v) p n m) finish) × (result.count ≤ n * m) }
+#[tactic(auto, using(crate::proofs::Fill::loop_laws))]
+fn fill_plane(v: &mut Volume, s: &mut Storage, p: Point, n: u64, m: u64, finish: u16) -> u64
+    requires { Fillable (stand_in v.old s.old) p n m 1 }
+    ensures put { edited_of result (stand_in v.new s.new) ≡ set_each (edited_of 0 (stand_in v.old s.old)) (plane_cells (shape_of v.old) p n m) finish }
+    ensures most { result ≤ n * m }
+    ensures kept { Kept s.old s.new }
 {
-    let mut head = v;
-    let mut count: u64 = 0;
-    let mut i: u64 = 0;
-    while i < m {
-        let d = Point {
-            x: p.x,
-            y: p.y + i,
-            z: p.z,
-        };
-        let e = fill_row(head, cells, hashes, versions, log, last, d, n, finish);
-        head = e.volume;
-        count += e.count;
-        i += 1;
+    let mut count = 0;
+    for i in 0..m {
+        let d = Point { y: p.y + i, ..p };
+        count += fill_row(v, s, d, n, finish);
     }
-    Edit {
-        count,
-        volume: head,
-    }
+    count
 }
 
-// l planes of m rows of n cells, along z.
-fn fill_solid(
-    v: Volume,
-    cells: &mut [u16],
-    hashes: &mut [u64],
-    versions: &mut [u32],
-    log: &mut [u32],
-    last: &mut [u64],
-    p: Point,
-    n: u64,
-    m: u64,
-    l: u64,
-    finish: u16,
-) -> Edit
-    requires { Fillable (state_of v cells.old hashes.old versions.old log.old last.old) p n m l }
-    ensures { (edited_of result.count (state_of result.volume cells.new hashes.new versions.new log.new last.new) ≡ set_each (edited_of 0 (state_of v cells.old hashes.old versions.old log.old last.old)) (solid_cells (shape_of v) p n m l) finish) × (result.count ≤ n * m * l) }
+// A region, plane by plane, along z.
+#[tactic(auto, using(crate::proofs::Fill::loop_laws))]
+fn fill_solid(v: &mut Volume, s: &mut Storage, k: Region, finish: u16) -> u64
+    requires { Fillable (stand_in v.old s.old) k.low k.count.x k.count.y k.count.z }
+    ensures put { edited_of result (stand_in v.new s.new) ≡ set_each (edited_of 0 (stand_in v.old s.old)) (solid_cells (shape_of v.old) k.low k.count.x k.count.y k.count.z) finish }
+    ensures most { result ≤ k.count.x * k.count.y * k.count.z }
+    ensures kept { Kept s.old s.new }
 {
-    let mut head = v;
-    let mut count: u64 = 0;
-    let mut i: u64 = 0;
-    while i < l {
+    let mut count = 0;
+    for i in 0..k.count.z {
         let d = Point {
-            x: p.x,
-            y: p.y,
-            z: p.z + i,
+            z: k.low.z + i,
+            ..k.low
         };
-        let e = fill_plane(head, cells, hashes, versions, log, last, d, n, m, finish);
-        head = e.volume;
-        count += e.count;
-        i += 1;
+        count += fill_plane(v, s, d, k.count.x, k.count.y, finish);
     }
-    Edit {
-        count,
-        volume: head,
-    }
-}
-
-fn done(answer: NumberAnswer, volume: Volume) -> FillDone
-    ensures { result ≡ record { answer = answer; volume = volume } }
-{
-    FillDone { answer, volume }
+    count
 }
 
 impl Volume {
-    // Every cell that lies both in the box between two corners and in the stand takes a finish, and the cells changed are answered; refuses by 3, 4 and 6. Rules out border cells filled by a box beside the stand, and a box filled x outermost.
+    // Every cell that lies both in the box between two corners and in the stand takes a finish: the cells changed, and the header after it; refuses by 3, 4 and 6. Rules out border cells filled by a box beside the stand, and a box filled x outermost.
+    #[tactic(auto, using(crate::proofs::Fill::fill_laws))]
     pub fn fill(
         self,
-        cells: &mut [u16],
-        hashes: &mut [u64],
-        versions: &mut [u32],
-        log: &mut [u32],
-        last: &mut [u64],
+        s: &mut Storage,
         from: Cell,
         to: Cell,
         voxel: Voxel,
-    ) -> FillDone
-        ensures { outcome_of (number_answer result.answer) (state_of result.volume cells.new hashes.new versions.new log.new last.new) ≡ fill_call (state_of self cells.old hashes.old versions.old log.old last.old) from to voxel.0 }
+    ) -> Result<Edited, Refusal>
+        ensures outcome { edit_outcome self result s.new ≡ fill_call (stand_in self s.old) from to voxel.0 }
+        ensures kept { Kept s.old s.new }
     {
-        let code = storage_code(
-            self,
-            cells.len(),
-            hashes.len(),
-            versions.len(),
-            log.len(),
-            last.len(),
-        );
-        if code != 0 {
-            return done(NumberAnswer::Refused(code), self);
-        }
-        let Common::Is(k) = box_of(self, from, to) else {
-            return done(NumberAnswer::Is(0), self);
+        s.check(self)?;
+        let mut volume = self;
+        let Some(k) = box_of(self, from, to) else {
+            return Ok(Edited { count: 0, volume });
         };
-        let p = k.low;
-        let n = k.count.x;
-        let m = k.count.y;
-        let l = k.count.z;
-        if 0xffff_ffff_ffff_ffff - self.generation < n * m * l {
-            return done(NumberAnswer::Refused(6), self);
+        if u64::MAX - self.generation < k.count.x * k.count.y * k.count.z {
+            return Err(Refusal::GenerationsSpent);
         }
-        let finish = voxel.0;
-        let e = fill_solid(self, cells, hashes, versions, log, last, p, n, m, l, finish);
-        let next = e.volume;
-        done(NumberAnswer::Is(e.count), next)
+        let count = fill_solid(&mut volume, s, k, voxel.0);
+        Ok(Edited { count, volume })
     }
 }

@@ -1,20 +1,26 @@
-use mathlib.Core.Path.{ap, ◌∙◌}
-use mathlib.Core.List.{List}
-use Prim.Native.Nat.{ℕ}
-use native.Mathlib.Omega.{arith}
-use lib.ListN.{length}
-use lib.Seq.{length-sets}
-use Rattle.stand.specs.Shape.{shape_of}
-use Rattle.form.specs.Entries.{entries_of}
-use Rattle.form.specs.Form.{entries_bytes, head_bytes}
-use Rattle.form.proofs.store.Laws.{all-length, form-written, records_ordered}
+use Rattle.std.proofs.Common.{arith}
+use Rattle.form.proofs.store.Laws.{form_long, form_written, front_kept, length_is, records_fit, records_ordered}
 use Rattle.form.proofs.store.put_form.Goals as goal
 
-pub put_entries-requires : goal.put_entries-requires
-put_entries-requires c = let l = ap (λ (bs : List ℕ). length bs) c.put_head.ensures ∙ length-sets c.args.out.now 0 (head_bytes (shape_of c.args.v)) in (c.requires.0, omega (arith, l, all-length c.args.v c.args.cells.now c.requires.1, c.requires.2))
+pub put_head-requires : goal.put_head-requires
+put_head-requires c = omega (arith, form_long c.args.stand.header.volume c.args.stand.cells.now)
 
-pub form_digest-d-requires : goal.form_digest-d-requires
-form_digest-d-requires c = let l = ap (λ (bs : List ℕ). length bs) c.put_head.ensures ∙ length-sets c.args.out.now 0 (head_bytes (shape_of c.args.v)) in let m = ap (λ (bs : List ℕ). length bs) c.put_entries.ensures ∙ length-sets _ 25 (entries_bytes (entries_of (shape_of c.args.v) c.args.cells.now)) in (c.requires.0.formed, omega (arith, l, m, c.requires.2), records_ordered c.args.v c.args.cells.now c.args.out.now c.requires.0 (λ j. omega (arith, c.shared_slice_known-1.given j)) c.requires.1 c.requires.2 c.put_head.ensures c.put_entries.ensures)
+pub invariant_of-records : goal.invariant_of-records
+invariant_of-records c =
+    record { whole = records_fit c.args.stand.header.volume c.args.stand.cells.now c.args.out.now c.requires.room c.put_head.ensures c.put_records-end.ensures }
+
+pub digest-digest-requires : goal.digest-digest-requires
+digest-digest-requires c =
+    let s = c.args.stand in
+    records_ordered s.header.volume s.cells.now c.args.out.now c.requires.room c.put_head.ensures c.put_records-end.ensures s.header.formed c.requires.finishes
+
+pub put_tail-requires : goal.put_tail-requires
+put_tail-requires c =
+    let v = c.args.stand.header.volume in
+    let cells = c.args.stand.cells.now in
+    omega (arith, length_is v cells c.put_records-end.ensures, front_kept v cells c.args.out.now c.requires.room c.put_head.ensures c.put_records-end.ensures)
 
 pub returns : goal.returns
-returns c = form-written c.args.v c.args.cells.now c.args.out.now c.requires.0 (λ j. omega (arith, c.shared_slice_known-1.given j)) c.requires.1 c.requires.2 c.put_head.ensures c.put_entries.ensures c.form_digest-d.ensures c.put_tail.ensures
+returns c =
+    let s = c.args.stand in
+    form_written s.header.volume s.cells.now c.args.out.now c.requires.room c.put_head.ensures c.put_records-end.ensures s.header.formed c.requires.finishes c.digest-digest.ensures c.put_tail.ensures

@@ -1,32 +1,13 @@
-use mathlib.Core.Path.{◌≡◌, sym, ap, ◌∙◌}
-use mathlib.Core.List.{List}
-use Prim.Native.Nat.{ℕ}
-use native.Mathlib.Omega.{arith}
-use lib.ListN.{length}
-use lib.Seq.{sets}
-use Rattle.form.specs.Entries.{entry_of}
-use Rattle.form.specs.Form.{entries_bytes}
-use Rattle.form.specs.Inner.{one_of}
-use Rattle.form.proofs.Reading.{entry_length}
-use Rattle.form.proofs.store.Slots.{bytes-none, bytes-some}
+use Rattle.std.proofs.Common.{arith}
+use Rattle.form.specs.Inner.{slot_of}
+use Rattle.form.proofs.store.Slots.{written_full, written_none, written_one}
 use Rattle.form.proofs.store.put_one.Goals as goal
 
-none : (k x : ℕ) → x ≡ 0 → length (entries_bytes (one_of k x)) ≡ 0
-none k x e = ap (λ (bs : List ℕ). length bs) (bytes-none k x e)
+pub returns-then-r-eq0 : goal.returns-then-r-eq0
+returns-then-r-eq0 c = written_none _ _ (slot_of c.args.r) _ c.if-r-eq0.true
 
-some : (k x : ℕ) → (x ≡ 0 → ⊥) → length (entries_bytes (one_of k x)) ≡ 7
-some k x e = ap (λ (bs : List ℕ). length bs) (bytes-some k x e) ∙ entry_length (entry_of k x)
+pub returns-then-end-out : goal.returns-then-end-out
+returns-then-end-out c = written_one _ _ (slot_of c.args.r) _ c.if-r-eq0.false c.put_record.ensures
 
-pub returns-then-x-eq0 : goal.returns-then-x-eq0
-returns-then-x-eq0 c =
-    let a = c.args in
-    (sym (ap (sets a.out.now a.at) (bytes-none a.slot a.x c.if-x-eq0.true)), omega (arith, none a.slot a.x c.if-x-eq0.true))
-
-pub put_entry-requires : goal.put_entry-requires
-put_entry-requires c = omega (arith, c.requires, some c.args.slot c.args.x c.if-x-eq0.false)
-
-pub returns : goal.returns
-returns c =
-    let a = c.args in
-    let n = c.if-x-eq0.false in
-    (c.put_entry.ensures ∙ ap (sets a.out.now a.at) (sym (bytes-some a.slot a.x n)), omega (arith, some a.slot a.x n))
+pub returns-else-end-out : goal.returns-else-end-out
+returns-else-end-out c = written_full _ _ (slot_of c.args.r) _ c.if-r-eq0.false (omega arith)

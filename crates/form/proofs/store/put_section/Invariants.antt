@@ -1,10 +1,7 @@
-use Prim.Native.Nat.{◌-◌, ◌*◌, ◌≤◌}
-use Rattle.form.specs.Inner.{kept_in}
-use Rattle.form.proofs.store.Slots.{Wrote}
+use Rattle.std.proofs.Common.{◌*◌}
+use Rattle.form.specs.Entries.{entries_from}
+use Rattle.form.specs.Inner.{Written, kept_in}
 use Rattle.form.proofs.store.put_section.Given as goal
 
-abbrev pub invariant-loop-j : goal.invariant-loop-j
-invariant-loop-j l = Wrote (kept_in l.low l.n l.cells) l.initial.out (l.section * 4096) l.from l.j l.at l.out × (l.j ≤ 4096)
-
-abbrev pub decreases-loop-j : goal.decreases-loop-j
-decreases-loop-j l = 4096 - l.j
+abbrev pub invariant-loop-within : goal.invariant-loop-within
+invariant-loop-within l = Written l.initial.out l.out l.from (entries_from (kept_in l.here.low l.here.size l.stand.cells.now) (l.section * 4096) l.within) l.at

@@ -1,13 +1,7 @@
-use mathlib.Core.Path.{◌≡◌, refl, sym, ap, ◌∙◌}
-use mathlib.Core.Bool.{Bool, true, false, ◌&&◌}
-use Prim.Native.Nat.{◌*◌, ◌≤◌, ◌<◌}
-use native.Mathlib.Nat.{le-mul_of_pos_right}
-use native.Mathlib.Omega.{arith}
-use borrow.Author.Tests.{le-leb, lt-leb}
-use lib.Dec.{leb}
-use lib.IntN.{ℤ, pos, negsuc}
+use Rattle.std.proofs.Common.{◌≡◌, ◌∙◌, refl, sym, ap, ℕ, zero, suc, ◌*◌, ◌<◌, ◌≤◌, ◌⊎◌, ⊎_elim, min, Bool, ◌&&◌, leb, ℤ, pos, negsuc, mul-zero, zero-mul, le-mul_of_pos_right, arith, le-leb}
+use mathlib.Core.Bool.{and-false}
+use borrow.Author.Tests.{lt-leb}
 use lib.Signed.{le_z}
-use Rattle.arith.proofs.Product.{below}
 use Rattle.arith.specs.Level.{count_of}
 use Rattle.stand.specs.Refusal.{answer, first, gives, refused}
 use Rattle.stand.specs.Shape.{counts_of, product}
@@ -16,78 +10,43 @@ use Rattle.stand.specs.declared.volume.shape.Point.{Point}
 use Rattle.mesh.specs.Quad.{merged_call, positive}
 use Rattle.mesh.proofs.Quad.merged.Goals as goal
 
-abbrev some : Point → Bool
-some n = leb 1 n.x && (leb 1 n.y && leb 1 n.z)
-
 count-some : (z : ℤ) → le_z (pos 1) z ≡ leb 1 (count_of z)
 count-some (pos n) = refl
 count-some (negsuc n) = refl
 
-module _ (e : Extent) {n : Point} (is : n ≡ counts_of e) where
-  tested : positive e && leb (product (counts_of e)) 2147483647 ≡ some n && leb (product n) 2147483647
-  unfolding positive
-  tested =
-      (λ i. (count-some e.x i && (count-some e.y i && count-some e.z i)) && leb (product (counts_of e)) 2147483647)
-      ∙ ap (λ (p : Point). some p && leb (product p) 2147483647) (sym is)
+-- all three are positive if their product is
+factors : (a b d : ℕ) → leb 1 a && (leb 1 b && leb 1 d) ≡ leb 1 (a * b * d)
+factors zero b d = rw (zero-mul, zero-mul) refl
+factors (suc a) zero d = rw (mul-zero, zero-mul) (and-false _)
+factors (suc a) (suc b) zero = rw mul-zero (ap (λ (t : Bool). leb 1 (suc a) && t) (and-false _) ∙ and-false _)
+factors (suc a) (suc b) (suc d) =
+    rw (le-leb 1 (suc a) (omega arith), le-leb 1 (suc b) (omega arith), le-leb 1 (suc d) (omega arith)) (sym (le-leb 1 (suc a * suc b * suc d) (omega (arith, le-mul_of_pos_right {m = suc b} (suc a) (omega arith), le-mul_of_pos_right {m = suc d} (suc a * suc b) (omega arith)))))
 
-  turned : some n && leb (product n) 2147483647 ≡ false → refused 13 ≡ merged_call e
+module _ (e : Extent) {n : Point} {f : ℕ} (is : n ≡ counts_of e) (held : f ≡ min (n.x * n.y * n.z) 18446744073709551615) where
+  some : positive e ≡ leb 1 (product (counts_of e))
+  unfolding positive product
+  some = (λ i. count-some e.x i && (count-some e.y i && count-some e.z i)) ∙ factors (counts_of e).x (counts_of e).y (counts_of e).z
+
+  faces : f ≡ min (product (counts_of e)) 18446744073709551615
+  unfolding product
+  faces = held ∙ ap (λ (p : Point). min (p.x * p.y * p.z) 18446744073709551615) is
+
+  turned : (f ≡ 0) ⊎ ((f ≡ 0 → ⊥) × (2147483647 < f)) → refused 13 ≡ merged_call e
   unfolding merged_call first answer
-  turned h = rw (tested, h)
+  turned h =
+      rw some
+      (⊎_elim
+      (λ z. rw (lt-leb 1 (product (counts_of e)) (omega (arith, faces, z))) refl)
+      (λ z. rw (le-leb 1 (product (counts_of e)) (omega (arith, faces, z.1)), lt-leb (product (counts_of e)) 2147483647 (omega (arith, faces, z.1))) refl) h)
 
-  given : some n && leb (product n) 2147483647 ≡ true → gives (product n) ≡ merged_call e
+  given : (f ≡ 0 → ⊥) → f ≤ 2147483647 → gives f ≡ merged_call e
   unfolding merged_call first answer
-  given h = rw (tested, h) (ap (λ (p : Point). gives (product p)) is)
+  given z h =
+      rw (some, le-leb 1 (product (counts_of e)) (omega (arith, faces)), le-leb (product (counts_of e)) 2147483647 (omega (arith, faces)))
+      (ap gives (omega (arith, faces)))
 
-  turned-x : n.x < 1 → refused 13 ≡ merged_call e
-  turned-x h = turned (rw (lt-leb 1 n.x h))
-
-  module _ (x : 1 ≤ n.x) where
-    turned-y : n.y < 1 → refused 13 ≡ merged_call e
-    turned-y h = turned (rw (le-leb 1 n.x x, lt-leb 1 n.y h))
-
-    module _ (y : 1 ≤ n.y) where
-      turned-z : n.z < 1 → refused 13 ≡ merged_call e
-      turned-z h = turned (rw (le-leb 1 n.x x, le-leb 1 n.y y, lt-leb 1 n.z h))
-
-      module _ (z : 1 ≤ n.z) where
-        turned-product : 2147483647 < n.x * n.y * n.z → refused 13 ≡ merged_call e
-        unfolding product
-        turned-product h = turned (rw (le-leb 1 n.x x, le-leb 1 n.y y, le-leb 1 n.z z, lt-leb _ _ h))
-
-        turned_plane : 2147483647 < n.x * n.y → refused 13 ≡ merged_call e
-        turned_plane h = turned-product (omega (arith, le-mul_of_pos_right {m = n.z} (n.x * n.y) z))
-
-        given-product : n.x * n.y * n.z ≤ 2147483647 → gives (n.x * n.y * n.z) ≡ merged_call e
-        unfolding product
-        given-product h = given (rw (le-leb 1 n.x x, le-leb 1 n.y y, le-leb 1 n.z z, le-leb _ _ h))
-
-pub returns-then-x-lt1 : goal.returns-then-x-lt1
-returns-then-x-lt1 c = turned-x _ c.counts-n.ensures.0 c.if-x-lt1.true
-
-pub returns-then-y-lt1 : goal.returns-then-y-lt1
-returns-then-y-lt1 c = turned-y _ c.counts-n.ensures.0 c.if-x-lt1.false c.if-y-lt1.true
-
-pub returns-then-z-lt1 : goal.returns-then-z-lt1
-returns-then-z-lt1 c = turned-z _ c.counts-n.ensures.0 c.if-x-lt1.false c.if-y-lt1.false c.if-z-lt1.true
-
-pub overflow_mul-a : goal.overflow_mul-a
-overflow_mul-a c =
-    let n = c.counts-n.ensures.1 in
-    record { fits = below (omega (arith, n.x)) (omega (arith, n.y)) }
-
-pub returns-then-a-gt2147483647 : goal.returns-then-a-gt2147483647
-returns-then-a-gt2147483647 c =
-    turned_plane _ c.counts-n.ensures.0 c.if-x-lt1.false c.if-y-lt1.false c.if-z-lt1.false c.if-a-gt2147483647.true
-
-pub overflow_mul-k : goal.overflow_mul-k
-overflow_mul-k c =
-    let n = c.counts-n.ensures.1 in
-    record { fits = below (omega (arith, c.if-a-gt2147483647.false)) (omega (arith, n.z)) }
-
-pub returns-then-k-gt2147483647 : goal.returns-then-k-gt2147483647
-returns-then-k-gt2147483647 c =
-    turned-product _ c.counts-n.ensures.0 c.if-x-lt1.false c.if-y-lt1.false c.if-z-lt1.false c.if-k-gt2147483647.true
+pub returns-then-faces-eq0 : goal.returns-then-faces-eq0
+returns-then-faces-eq0 c = turned c.args.self.extent c.counts-n.ensures.0 c.saturating_mul-faces.ensures c.then-faces-eq0.either
 
 pub returns : goal.returns
-returns c =
-    given-product _ c.counts-n.ensures.0 c.if-x-lt1.false c.if-y-lt1.false c.if-z-lt1.false c.if-k-gt2147483647.false
+returns c = given c.args.self.extent c.counts-n.ensures.0 c.saturating_mul-faces.ensures c.if-faces-eq0.false c.if-most-faces.false

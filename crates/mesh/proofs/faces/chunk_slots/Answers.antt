@@ -1,33 +1,37 @@
-use mathlib.Core.Path.{◌∙◌, ap, sym}
-use native.Mathlib.Omega.{arith}
-use Rattle.stand.specs.Answer.{number_answer}
-use Rattle.stand.specs.Shape.{shape_of}
-use Rattle.stand.proofs.Shape.{formed-opens}
-use Rattle.mesh.specs.Part.{largest_side}
-use Rattle.mesh.proofs.Made.{largest_is, part-below}
-use Rattle.mesh.proofs.Wanting.{Formed, header-gives, slots_given, slots_high, slots_turned}
+use Rattle.std.proofs.Common.{rules, ◌≡◌, ◌∙◌, ap, sym, refl, arith}
+use Rattle.std.specs.Prelude.{IsErrAnd}
+use Rattle.stand.specs.Refusal.{first, gives, header_rules}
+use Rattle.stand.specs.declared.volume.Volume.{Volume}
+use Rattle.stand.proofs.Refusal.{accepted, begun, exits, first_rest, numbered}
+use Rattle.mesh.specs.Faces.{chunk_rules, slots_call}
+use Rattle.mesh.proofs.Made.{chunk_largest}
+use Rattle.mesh.proofs.Step.{chunks_few}
 use Rattle.mesh.proofs.faces.chunk_slots.Goals as goal
-use Rattle.mesh.proofs.faces.chunk_slots.Goals.{In-Is}
 
-formed : (c : In-Is) → Formed c.args.v c.in-Is.n
-formed c = header-gives _ _ (ap number_answer (sym c.in-Is.is) ∙ c.chunk_count.ensures)
+pub returns-in_err-header : goal.returns-in_err-header
+unfolding slots_call
+returns-in_err-header c =
+    let d = c.in_err-header.field-0.0 in
+    let x : IsErrAnd c.from_residual.result (λ f. f ≡ d) = search rules in
+    exits d _ _ x (begun d (header_rules c.args.v) (chunk_rules c.args.v c.args.chunk) c.in_err-header.ensures.code)
 
-pub returns-in_default : goal.returns-in_default
-returns-in_default c = slots_turned _ c.args.chunk _ (ap number_answer (sym c.in_default.is) ∙ c.chunk_count.ensures)
+pub returns-in_err-check_chunk : goal.returns-in_err-check_chunk
+unfolding slots_call numbered
+returns-in_err-check_chunk c =
+    let k = c.in_ok-header.ensures in
+    let d = c.in_err-check_chunk.field-0.0 in
+    let x : IsErrAnd c.from_residual-in_err-check_chunk.result (λ f. f ≡ d) = search rules in
+    exits d _ _ x
+    (c.in_err-check_chunk.ensures.code ∙ ap (λ (v : Volume). first (chunk_rules v c.args.chunk)) k.same ∙ sym (first_rest (header_rules c.args.v) (chunk_rules c.args.v c.args.chunk) refl (sym k.code)))
 
-pub returns-then-n-chunk : goal.returns-then-n-chunk
-returns-then-n-chunk c = slots_high _ _ (formed (goal.at.returns-then-n-chunk c).In-Is) c.if-n-chunk.true
-
-pub section_part-p-requires : goal.section_part-p-requires
-section_part-p-requires c = let f = formed (goal.at.section_part-p-requires c).In-Is in (f.formed, omega (arith, f.total, c.if-n-chunk.false))
-
-pub largest-requires : goal.largest-requires
-largest-requires c =
-    let f = formed (goal.at.largest-requires c).In-Is in
-    part-below (shape_of c.args.v) _ c.section_part-p.ensures.0 (formed-opens c.args.v f.formed)
+pub overflow_cast-chunk : goal.overflow_cast-chunk
+overflow_cast-chunk c = omega (arith, chunks_few c.in_ok-header.header, c.in_ok-check_chunk.ensures.inside)
 
 pub returns : goal.returns
+unfolding slots_call numbered
 returns c =
-    let k = c.section_part-p.ensures in
-    slots_given _ _ (formed (goal.at.returns c).In-Is) c.if-n-chunk.false
-    (largest_is (shape_of c.args.v) _ k.0 c.largest.ensures ∙ ap largest_side k.1)
+    let a = c.args in
+    let k = c.in_ok-header.ensures in
+    let z : first (chunk_rules a.v a.chunk) ≡ 0 = sym (c.in_ok-check_chunk.ensures.code ∙ ap (λ (v : Volume). first (chunk_rules v a.chunk)) k.same) in
+    ap gives (chunk_largest c.in_ok-header.header a.v a.chunk k.same c.corner_of-corner.ensures c.cut_at.ensures c.largest.ensures)
+    ∙ accepted _ (first_rest (header_rules a.v) (chunk_rules a.v a.chunk) refl (sym k.code) ∙ z)

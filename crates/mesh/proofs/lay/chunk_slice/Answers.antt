@@ -1,74 +1,60 @@
-use mathlib.Core.Path.{◌∙◌, ap}
+use Rattle.std.proofs.Common.{rules, ◌≡◌, ◌∙◌, ◌++◌, ℕ, ap, sym, subst, length, replicate, take, drop}
+use Rattle.std.specs.Prelude.{IsErrAnd}
+use Rattle.stand.specs.Refusal.{first}
 use Rattle.stand.specs.Shape.{shape_of}
-use Rattle.stand.proofs.Read.{listed, ranged}
-use Rattle.stand.proofs.Shape.{formed-opens}
-use Rattle.stand.proofs.Sides.{side-lt}
-use native.Mathlib.Omega.{arith}
-use Rattle.mesh.specs.Part.{largest_side}
+use Rattle.stand.specs.declared.volume.Volume.{Volume}
+use Rattle.mesh.specs.Faces.{chunk_rules}
+use Rattle.mesh.specs.Part.{largest_side, section_part}
+use Rattle.mesh.specs.Tiles.{Cleared}
 use Rattle.mesh.specs.Visible.{empty_beyond}
-use Rattle.mesh.proofs.Called.{chunk_inside, part-given, wiped_in}
-use Rattle.mesh.proofs.Laying.{section-some, slice-given, slice-high, slice_small, slice-turned}
-use Rattle.mesh.proofs.Made.{largest_is, part-below, section-part_in}
-use Rattle.mesh.proofs.Tables.{number_read, was_read}
+use Rattle.mesh.proofs.Called.{wiped_cleared, wiped_is}
+use Rattle.mesh.proofs.Laying.{slice_high, slice_seen, slice_small, slice_turned}
+use Rattle.mesh.proofs.Made.{largest_is, part-below}
 use Rattle.mesh.proofs.lay.chunk_slice.Goals as goal
 
-pub returns-then-code-ne0 : goal.returns-then-code-ne0
-returns-then-code-ne0 c =
+pub returns-in_err-stand : goal.returns-in_err-stand
+returns-in_err-stand c =
     let a = c.args in
-    let g = shape_of a.v in
-    slice-turned a.v a.cells.now a.chunk a.face a.slice (empty_beyond a.beyond) a.mask.now c.cells_code-code.ensures c.if-code-ne0.true
+    let d = c.in_err-stand.field-0.0 in
+    let x : IsErrAnd c.from_residual.result (λ f. f ≡ d) = search rules in
+    slice_turned a.v a.cells.now a.chunk a.face a.slice (empty_beyond a.beyond) _ d _ x c.in_err-stand.ensures.code
 
-pub returns-then-cells-chunk : goal.returns-then-cells-chunk
-returns-then-cells-chunk c =
+pub returns-in_err-check_chunk : goal.returns-in_err-check_chunk
+returns-in_err-check_chunk c =
     let a = c.args in
-    let g = shape_of a.v in
-    slice-high a.v a.cells.now a.chunk a.face a.slice (empty_beyond a.beyond) a.mask.now c.cells_code-code.ensures c.if-code-ne0.false c.if-cells-chunk.true
-
-pub section_part-p-requires : goal.section_part-p-requires
-section_part-p-requires c =
-    let a = c.args in
-    let g = shape_of a.v in
-    let e = c.cells_code-code.ensures in
-    let z = c.if-code-ne0.false in
-    ((listed 4096 a.v _ e z).formed, chunk_inside a.v a.cells.now e a.chunk z c.if-cells-chunk.false)
+    let k = c.in_ok-stand.ensures in
+    let d = c.in_err-check_chunk.field-0.0 in
+    let x : IsErrAnd c.from_residual-in_err-check_chunk.result (λ f. f ≡ d) = search rules in
+    slice_high a.v a.cells.now a.chunk a.face a.slice (empty_beyond a.beyond) _ (sym k.code) d _ x (c.in_err-check_chunk.ensures.code ∙ ap (λ (v : Volume). first (chunk_rules v a.chunk)) k.same.0)
 
 pub largest-want-requires : goal.largest-want-requires
-largest-want-requires c =
-    let a = c.args in
-    let g = shape_of a.v in
-    part-below g _ c.section_part-p.ensures.0 (formed-opens a.v (listed 4096 a.v _ c.cells_code-code.ensures c.if-code-ne0.false).formed)
+largest-want-requires c = part-below c.section_part-p.result
 
 pub returns-then-mask-want : goal.returns-then-mask-want
 returns-then-mask-want c =
     let a = c.args in
-    let g = shape_of a.v in
-    let k = c.section_part-p.ensures in
-    slice_small a.v a.cells.now a.chunk a.face a.slice (empty_beyond a.beyond) a.mask.now c.cells_code-code.ensures c.if-code-ne0.false c.if-cells-chunk.false (largest_is g _ k.0 c.largest-want.ensures ∙ ap largest_side k.1) c.if-mask-want.true
+    let k = c.in_ok-stand.ensures in
+    let p = c.section_part-p in
+    slice_small a.v a.cells.now a.chunk a.face a.slice (empty_beyond a.beyond) _ (sym k.code)
+    (sym (c.in_ok-check_chunk.ensures.code ∙ ap (λ (v : Volume). first (chunk_rules v a.chunk)) k.same.0))
+    (largest_is p.result c.largest-want.ensures ∙ ap largest_side p.ensures.1 ∙ ap (λ (v : Volume). largest_side (section_part (shape_of v) a.chunk)) k.same.0)
+    c.if-mask-want.true
 
 pub lay_slice-requires : goal.lay_slice-requires
 lay_slice-requires c =
-    let a = c.args in
-    let g = shape_of a.v in
-    let k = c.section_part-p.ensures in
-    let e = c.cells_code-code.ensures in
-    let z = c.if-code-ne0.false in
-    let p = part-given a.v a.cells.now e z (ranged c.well_formed.1.0.1.1.0.1.1) k.0 (section-part_in g a.chunk (chunk_inside a.v a.cells.now e a.chunk z c.if-cells-chunk.false) k.1) in
-    let r = c.side_of-side.ensures in
-    (p.formed, wiped_in a.mask.now p (largest_is g _ k.0 c.largest-want.ensures) c.if-mask-want.false c.clear_run.ensures, omega (arith, number_read r, side-lt a.face), was_read r)
-
-pub slice_in-s-requires : goal.slice_in-s-requires
-slice_in-s-requires c =
-    let a = c.args in
-    let g = shape_of a.v in
-    let k = c.section_part-p.ensures in
-    let e = c.cells_code-code.ensures in
-    let z = c.if-code-ne0.false in
-    (section-some a.v a.chunk (listed 4096 a.v _ e z).formed (ranged c.well_formed.1.0.1.1.0.1.1) (chunk_inside a.v a.cells.now e a.chunk z c.if-cells-chunk.false) k.0 k.1, c.side_of-side.ensures)
+    let m = c.args.mask.now in
+    let w = c.largest-want.result in
+    let e : c.fill.new.self ≡ replicate (length (take w m)) 0 = search rules in
+    subst (λ (n : ℕ). Cleared n (c.fill.new.self ++ drop w m)) (largest_is c.section_part-p.result c.largest-want.ensures) (wiped_cleared w m c.if-mask-want.false (wiped_is w m c.if-mask-want.false e))
 
 pub returns : goal.returns
 returns c =
     let a = c.args in
-    let g = shape_of a.v in
-    let k = c.section_part-p.ensures in
-    slice-given a.v a.cells.now a.chunk a.face a.slice (empty_beyond a.beyond) a.mask.now c.cells_code-code.ensures c.if-code-ne0.false c.if-cells-chunk.false (largest_is g _ k.0 c.largest-want.ensures ∙ ap largest_side k.1)
-    c.if-mask-want.false c.is_empty_beyond-outside.ensures (number_read c.side_of-side.ensures) k.1 c.clear_run.ensures c.lay_slice.ensures c.slice_in-s.ensures
+    let m = a.mask.now in
+    let k = c.in_ok-stand.ensures in
+    let p = c.section_part-p in
+    let w = c.largest-want.result in
+    let e : c.fill.new.self ≡ replicate (length (take w m)) 0 = search rules in
+    slice_seen a.v a.cells.now m a.chunk a.face a.slice a.beyond c.in_ok-stand.stand p.result k.same.0 (ap (λ r. r.now) k.same.1) p.ensures.0 p.ensures.1 (sym k.code)
+    (sym (c.in_ok-check_chunk.ensures.code ∙ ap (λ (v : Volume). first (chunk_rules v a.chunk)) k.same.0))
+    (largest_is p.result c.largest-want.ensures) c.if-mask-want.false (wiped_is w m c.if-mask-want.false e) c.lay_slice.ensures.lies c.lay_slice.ensures.laid

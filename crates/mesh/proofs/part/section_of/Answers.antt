@@ -1,35 +1,25 @@
-use native.Mathlib.Omega.{arith}
-use Prim.Native.Nat.{◌<◌}
-use Rattle.stand.specs.Shape.{max_chunks, product}
-use Rattle.stand.proofs.Formed.{counted_law}
-use Rattle.mesh.proofs.Step.{section-is}
+use Rattle.std.proofs.Common.{arith}
+use Rattle.stand.specs.Shape.{counts_of}
+use Rattle.mesh.proofs.Step.{chunks_few, section_lies, section_room}
 use Rattle.mesh.proofs.part.section_of.Goals as goal
-use Rattle.mesh.proofs.part.section_of.Goals.{After-place_in-place}
 
-small : (c : After-place_in-place) → c.args.chunk < max_chunks
-small c = let t = counted_law _ c.requires.0 c.counts-chunks.ensures.0 in omega (arith, t.total, t.three, c.requires.1)
+pub overflow_cast-chunk : goal.overflow_cast-chunk
+overflow_cast-chunk c = omega (arith, chunks_few c.args.scene.stand.header)
 
-pub place_in-place-requires : goal.place_in-place-requires
-unfolding product
-place_in-place-requires c = let t = counted_law _ c.requires.0 c.counts-chunks.ensures.0 in omega (arith, t.total, c.requires.1)
+pub overflow_add-result : goal.overflow_add-result
+overflow_add-result c =
+    omega (arith, (section_room (counts_of c.args.scene.stand.header.volume.chunks) c.args.chunk c.corner_of-corner.ensures).x, chunks_few c.args.scene.stand.header, c.levels-o.ensures.1.x)
 
-pub overflow_mul-x : goal.overflow_mul-x
-overflow_mul-x c = omega (arith, small (goal.at.overflow_mul-x c).After-place_in-place, c.place_in-place.ensures.1)
+pub overflow_add-result-2 : goal.overflow_add-result-2
+overflow_add-result-2 c =
+    omega (arith, (section_room (counts_of c.args.scene.stand.header.volume.chunks) c.args.chunk c.corner_of-corner.ensures).y, chunks_few c.args.scene.stand.header, c.levels-o.ensures.1.y)
 
-pub overflow_mul-y : goal.overflow_mul-y
-overflow_mul-y c = omega (arith, small (goal.at.overflow_mul-y c).After-place_in-place, c.place_in-place.ensures.2)
+pub overflow_add-result-3 : goal.overflow_add-result-3
+overflow_add-result-3 c =
+    omega (arith, (section_room (counts_of c.args.scene.stand.header.volume.chunks) c.args.chunk c.corner_of-corner.ensures).z, chunks_few c.args.scene.stand.header, c.levels-o.ensures.1.z)
 
-pub overflow_mul-z : goal.overflow_mul-z
-overflow_mul-z c = omega (arith, small (goal.at.overflow_mul-z c).After-place_in-place, c.place_in-place.ensures.3)
-
-pub overflow_add-low : goal.overflow_add-low
-overflow_add-low c = omega (arith, small (goal.at.overflow_add-low c).After-place_in-place, c.place_in-place.ensures.1, c.levels-o.ensures.1.x)
-
-pub overflow_add-low-2 : goal.overflow_add-low-2
-overflow_add-low-2 c = omega (arith, small (goal.at.overflow_add-low-2 c).After-place_in-place, c.place_in-place.ensures.2, c.levels-o.ensures.1.y)
-
-pub overflow_add-low-3 : goal.overflow_add-low-3
-overflow_add-low-3 c = omega (arith, small (goal.at.overflow_add-low-3 c).After-place_in-place, c.place_in-place.ensures.3, c.levels-o.ensures.1.z)
-
-pub returns : goal.returns
-returns c = section-is _ _ c.requires.0 c.levels-o.ensures.0 c.counts-n.ensures.0 c.counts-chunks.ensures.0 c.place_in-place.ensures.0 c.cut.ensures c.cut-2.ensures c.cut-3.ensures
+pub invariant_of-result : goal.invariant_of-result
+invariant_of-result c =
+    let o = c.levels-o.ensures in
+    let h = c.args.scene.stand.header in
+    record { lies = section_lies h.volume c.args.chunk h.formed o.2 c.requires o.0 c.corner_of-corner.ensures c.cut_at.ensures c.counts.ensures.0 }

@@ -1,13 +1,11 @@
-use Prim.Native.Nat.{ℕ, ◌+◌, ◌*◌}
-use native.Mathlib.Omega.{arith}
-use mathlib.Core.Path.{◌≡◌, ap, ◌∙◌}
-use lib.ListN.{get_or}
-use Rattle.mesh.proofs.Laid.{filled_as}
+use Rattle.std.proofs.Common.{rules, ◌≡◌, ◌∙◌, ℕ, ◌+◌, ◌*◌, get_or, mul-one}
+use Rattle.mesh.specs.Plane.{seen_at}
 use Rattle.mesh.proofs.plane.full_row.Goals as goal
 
 pub returns : goal.returns
 returns c =
-    let r = c.see_row in
-    filled_as
-    (λ u v a b. let e : u ≡ 0 + v * 0 + u = omega arith in ap (λ (i : ℕ). get_or r.new.row i 0) e ∙ r.ensures.laid u v a b)
-    c.lay_row.ensures
+    let a = c.args in
+    let f : ℕ → ℕ = λ u. seen_at a.here.cells.now a.next.cells.now (a.here.at + u * 1) (a.next.at + u * 1) in
+    c.lay_row.ensures f (λ u x l p.
+    let e : x ≡ get_or c.see_row.new.row u 0 = search rules in
+    rw mul-one (e ∙ c.see_row.ensures.seen u l))

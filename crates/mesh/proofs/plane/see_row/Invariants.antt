@@ -1,9 +1,7 @@
-use Prim.Native.Nat.{◌-◌, ◌≤◌}
-use Rattle.mesh.specs.Plane.{Laid, seen_row}
+use Rattle.std.proofs.Common.{◌≡◌, ℕ, ◌+◌, ◌<◌, get_or, length}
+use Rattle.mesh.specs.Plane.{seen_at}
 use Rattle.mesh.proofs.plane.see_row.Given as goal
 
 abbrev pub invariant-loop-u : goal.invariant-loop-u
-invariant-loop-u l = (l.u ≤ 16) × Laid l.initial.row l.row 0 0 l.u 1 (seen_row l.here l.next l.at l.beside 1)
-
-abbrev pub decreases-loop-u : goal.decreases-loop-u
-decreases-loop-u l = 16 - l.u
+invariant-loop-u l =
+    (length l.row ≡ 16) × ((i : ℕ) → i < l.u → get_or l.row i 0 ≡ seen_at l.here.cells.now l.next.cells.now (l.here.at + i) (l.next.at + i))

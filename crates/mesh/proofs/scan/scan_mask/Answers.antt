@@ -1,48 +1,32 @@
-use mathlib.Core.Path.{◌≡◌, refl, subst, ◌∙◌}
-use Prim.Native.Nat.{ℕ}
-use native.Mathlib.Omega.{arith}
+use Rattle.std.proofs.Common.{◌≡◌, refl, arith}
 use Rattle.mesh.specs.Frame.{Wrote}
 use Rattle.mesh.specs.Scan.{fresh, rows_to, scan}
 use Rattle.mesh.proofs.Frame.{rows_step, wrote-start}
-use Rattle.mesh.proofs.Upto.{row_fits}
 use Rattle.mesh.proofs.Scanned.{rows_few}
-use borrow.Author.Rules.{rules}
+use Rattle.mesh.proofs.Upto.{row_fits}
 use Rattle.mesh.proofs.scan.scan_mask.Goals as goal
 
 pub loop-v-init : goal.loop-v-init
 unfolding rows_to
-loop-v-init c = (search rules, wrote-start _ _ _ _, refl, refl, refl)
+loop-v-init c = wrote-start _ _ _ _
 
 pub overflow_mul-v : goal.overflow_mul-v
-overflow_mul-v c =
-    let p = c.requires in
-    omega (arith, p.whole, c.well_formed.0.0, row_fits c.args.f.width c.args.f.height c.loop-v.v c.loop-v-test.true)
+overflow_mul-v c = omega (arith, c.requires.whole, c.well_formed.0.0, row_fits c.args.f.width c.args.f.height c.loop-v.v c.loop-v-test.true)
 
 pub scan_row-n-requires : goal.scan_row-n-requires
 scan_row-n-requires c =
     let p = c.requires in
     let l = c.loop-v in
     let t = c.loop-v-test.true in record {
-      row_pre = record {
-        lies = p.lies;
-        whole = omega (arith, p.whole, l.invariant.2);
-        second = t;
-        here = refl;
-        few = omega (arith, p.few, p.whole, c.well_formed.0.1, l.invariant.1.total, rows_few c.args.f.width c.args.f.height (fresh c.args.mask.now) l.v, row_fits c.args.f.width c.args.f.height l.v t);
-      };
-      seen_len = l.invariant.4;
+      lies = p.lies;
+      whole = omega (arith, p.whole, l.auto.mask);
+      second = t;
+      here = refl;
+      few = omega (arith, p.few, p.whole, c.well_formed.0.1, l.invariant.total, rows_few c.args.f.width c.args.f.height (fresh c.args.mask.now) l.v, row_fits c.args.f.width c.args.f.height l.v t);
     }
 
 pub loop-v-preserved : goal.loop-v-preserved
-loop-v-preserved c =
-    let l = c.loop-v in
-    let k = c.scan_row-n in (
-      omega (arith, c.loop-v-test.true),
-      rows_step c.args.mask.now l.v l.invariant.1 k.ensures.0,
-      k.auto.mask ∙ l.invariant.2,
-      k.auto.out ∙ l.invariant.3,
-      k.ensures.1,
-    )
+loop-v-preserved c = rows_step c.args.mask.now c.loop-v.v c.loop-v.invariant c.scan_row-n.ensures
 
 pub returns : goal.returns
 unfolding scan
@@ -50,7 +34,6 @@ returns c =
     let l = c.loop-v in
     let w = c.args.f.width in
     let h = c.args.f.height in
-    let e : l.v ≡ h = omega (arith, l.invariant.0, c.loop-v-test.false) in
-    let r : Wrote c.args.f (scan w h c.args.mask.now) l.mask c.args.out.now l.out c.args.count l.n =
-    subst (λ (v : ℕ). Wrote c.args.f (rows_to w h (fresh c.args.mask.now) v) l.mask c.args.out.now l.out c.args.count l.n) e l.invariant.1 in
+    let e : l.v ≡ h = omega arith in
+    let r : Wrote c.args.f (scan w h c.args.mask.now) l.mask c.args.out.now l.out c.args.count l.n = rw e at l.invariant in
     record { wrote = r; few = omega (arith, r.total, rows_few w h (fresh c.args.mask.now) h) }

@@ -1,4 +1,4 @@
-use Prim.Native.Nat.{◌+◌, ◌-◌, ◌*◌}
+use Rattle.std.proofs.Common.{◌+◌, ◌-◌, ◌*◌}
 use Rattle.mesh.proofs.Stretches.{RowScanned}
 use Rattle.mesh.proofs.scan.scan_row.Given as goal
 

@@ -1,5 +1,5 @@
-use Rattle.arith.proofs.Signed.{back}
-use mathlib.Core.Path.{◌∙◌}
+use Rattle.std.proofs.Common.{◌∙◌, ap}
+use Rattle.stand.specs.Extents.{extent_from}
 use Rattle.mesh.specs.Slice.{held_extent}
 use Rattle.mesh.proofs.Slicing.{number-held}
 use Rattle.mesh.proofs.slice.hold.Goals as goal
@@ -8,8 +8,4 @@ pub returns : goal.returns
 unfolding held_extent
 returns c =
     let d = c.args.d in
-    λ i. record {
-      x = (back _ c.from_level-x.type_inv ∙ c.from_level-x.ensures ∙ number-held d.x) i;
-      y = (back _ c.from_level-y.type_inv ∙ c.from_level-y.ensures ∙ number-held d.y) i;
-      z = (back _ c.from_level-z.type_inv ∙ c.from_level-z.ensures ∙ number-held d.z) i;
-    }
+    c.from.ensures ∙ ap extent_from c.cell_up.ensures ∙ (λ i. record { x = number-held d.x i; y = number-held d.y i; z = number-held d.z i })

@@ -1,8 +1,4 @@
-use Prim.Native.Nat.{ℕ, ◌+◌}
-use mathlib.Core.Path.{◌≡◌, ap, ◌∙◌}
-use lib.IntN.{ℤ, pos, ◌+ℤ◌}
-use mir.Syntax.{w32}
-use mir.Val.{SFits}
+use Rattle.std.proofs.Common.{◌≡◌, ◌∙◌, ap, ℕ, ◌+◌, ℤ, pos, ◌+ℤ◌, w32, SFits}
 use Rattle.arith.specs.Level.{level_of, number_of}
 use Rattle.arith.specs.Saturate.{saturate}
 use Rattle.stand.specs.Cells.{moved}
@@ -19,7 +15,7 @@ pub returns : goal.returns
 unfolding shifted moved
 returns c =
     let s = c.args in
-    let l = c.levels-l.ensures in
+    let l = c.levels.ensures in
     c.cell_up.ensures ∙ (λ i. record {
       x = read s.c.x s.d.x l.2.x (ap (λ (p : Point). p.x) l.0) i;
       y = read s.c.y s.d.y l.2.y (ap (λ (p : Point). p.y) l.0) i;

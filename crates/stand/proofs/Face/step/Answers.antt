@@ -1,4 +1,4 @@
-use Rattle.std.proofs.Common.{◌≡◌, List, [], ◌∷◌, get_or, ℤ, pos, negsuc, refl, ap, ◌∙◌}
+use Rattle.std.proofs.Common.{◌≡◌, List, [], ◌∷◌, slice_index_or, ℤ, pos, negsuc, refl, ap, ◌∙◌}
 use Rattle.stand.specs.Sides.{normal_at, step_at, step_on, way_at}
 use Rattle.stand.specs.declared.Step.{Step}
 use Rattle.stand.proofs.Sides.{six}
@@ -15,4 +15,4 @@ steps =
 
 pub returns : goal.returns
 unfolding step_at step_on way_at normal_at
-returns c = six (λ s. get_or steps s (step_of (pos 0) (pos 0) (pos 0)) ≡ step_at s) refl refl refl refl refl refl c.number-n.result c.number-n.ensures.1 ∙ ap step_at c.number-n.ensures.0
+returns c = six (λ s. slice_index_or steps s (step_of (pos 0) (pos 0) (pos 0)) ≡ step_at s) refl refl refl refl refl refl c.number.result c.number.ensures.1 ∙ ap step_at c.number.ensures.0

@@ -1,34 +1,22 @@
-use Rattle.std.proofs.Common.{◌≡◌, ◌<◌, true, sym, ◌∙◌, arith}
-use Rattle.stand.specs.Shape.{product, sections, shape_of, well_formed}
-use Rattle.stand.proofs.Formed.{counted_law}
+use Rattle.std.proofs.Common.{◌≡◌, ◌<◌, subst, arith}
 use Rattle.stand.specs.Read.{chunk_origin_call}
-use Rattle.stand.proofs.Read.{corner-high, corner_made, ill_formed, ranged}
+use Rattle.stand.specs.Refusal.{gives}
+use Rattle.stand.specs.Shape.{sections, shape_of}
+use Rattle.stand.specs.declared.volume.Volume.{Volume}
+use Rattle.stand.proofs.Read.{corner_made, corner_within}
 use Rattle.stand.proofs.volume.Volume.chunk_origin.Goals as goal
-use Rattle.stand.proofs.volume.Volume.chunk_origin.Goals.{Else-not-is_well_formed, Else-chunk_total-i}
+use Rattle.stand.proofs.volume.Volume.chunk_origin.Goals.{Else-chunk_total-chunk}
 
-ok : (c : Else-not-is_well_formed) → well_formed c.args.self ≡ true
-ok c = sym c.is_well_formed.ensures ∙ c.if-not-is_well_formed.false
+there : (c : Else-chunk_total-chunk) → c.args.chunk < sections (shape_of c.in_ok-header.header.volume)
+there c = omega (arith, c.if-chunk_total-chunk.false, c.chunk_total.ensures.total)
 
-below : (c : Else-chunk_total-i) → c.args.chunk < sections (shape_of c.args.self)
-below c = omega (arith, c.if-chunk_total-i.false, c.chunk_total.ensures.0)
-
-pub returns-then-not-is_well_formed : goal.returns-then-not-is_well_formed
-unfolding chunk_origin_call
-returns-then-not-is_well_formed c = ill_formed _ _ _ (sym c.is_well_formed.ensures ∙ c.if-not-is_well_formed.true)
-
-pub chunk_total-requires : goal.chunk_total-requires
-chunk_total-requires c = ok c
-
-pub returns-then-chunk_total-i : goal.returns-then-chunk_total-i
-returns-then-chunk_total-i c = corner-high _ _ (ok (goal.at.returns-then-chunk_total-i c).Else-not-is_well_formed) (omega (arith, c.chunk_total.ensures.0))
-
-pub corner_of-c-requires : goal.corner_of-c-requires
-unfolding product
-corner_of-c-requires c =
-    let past = goal.at.corner_of-c-requires c in
-    let t = counted_law _ (ok past.Else-not-is_well_formed) c.counts-k.ensures.0 in (omega (arith, t.total, below past.Else-chunk_total-i), t.three)
+pub cell_from-requires : goal.cell_from-requires
+cell_from-requires c =
+    let h = c.in_ok-header.header in
+    corner_within h.volume c.args.chunk h.formed (there (goal.at.cell_from-requires c).Else-chunk_total-chunk) c.corner_of.ensures
 
 pub returns : goal.returns
 returns c =
-    let past = goal.at.returns c in
-    corner_made _ (ranged c.well_formed.0.1.1.0.1.1) (ok past.Else-not-is_well_formed) _ c.counts-k.ensures.0 c.corner_of-c.ensures.0 (below past.Else-chunk_total-i) c.corner_of-c.ensures.1 c.offset.ensures
+    let h = c.in_ok-header.header in
+    subst (λ (v : Volume). gives c.cell_from.result ≡ chunk_origin_call v c.args.chunk) c.in_ok-header.ensures.same
+    (corner_made h.volume c.args.chunk h.formed (there (goal.at.returns c).Else-chunk_total-chunk) c.corner_of.ensures c.cell_from.ensures)

@@ -1,53 +1,19 @@
-use Rattle.std.proofs.Common.{ap, arith}
-use Rattle.stand.specs.Storage.{Lengths}
+use Rattle.std.proofs.Common.{arith}
 use Rattle.stand.proofs.Parts.{planes}
-use Rattle.stand.proofs.Fill.{fill-all, fill-count, fill-lengths, fill_more, fill-next, fill_none, sizes_few}
-use Rattle.stand.proofs.Shape.{formed-opens}
+use Rattle.stand.proofs.Fill.{fill_more, fill_next, fill_none, step_y}
 use Rattle.stand.proofs.volume.fill.fill_plane.Goals as goal
 
 pub loop-i-init : goal.loop-i-init
 loop-i-init c = fill_none (planes _ _) _ _ _
 
 pub overflow_add-d : goal.overflow_add-d
-overflow_add-d c =
-    let f = c.requires in
-    omega (arith, f.y, (sizes_few _ (formed-opens _ f.formed)).y, c.loop-i-test.true)
+overflow_add-d c = step_y c.requires c.loop-i-test.true
 
-pub fill_row-e-requires : goal.fill_row-e-requires
-fill_row-e-requires c =
-    let f = c.requires in
-    let t = c.loop-i-test.true in
-    fill-next (planes _ _) c.loop-i.invariant t f (omega arith) _ _ 1 1 (omega arith) (omega arith) (omega arith) (omega arith)
-
-pub overflow_add-count : goal.overflow_add-count
-overflow_add-count c =
-    record { fits = fill-count (planes _ _) c.loop-i.invariant c.loop-i-test.true c.requires (omega arith) c.fill_row-e.ensures.1 }
-
-pub overflow_add-i : goal.overflow_add-i
-overflow_add-i c =
-    omega (arith, c.loop-i-test.true, c.ranges.m)
-
-pub loop-i-smaller : goal.loop-i-smaller
-loop-i-smaller c = omega (arith, c.loop-i-test.true)
+pub fill_row-count-requires : goal.fill_row-count-requires
+fill_row-count-requires c =
+    fill_next (planes _ _) c.loop-i.invariant c.loop-i-test.true c.requires (omega arith) _ _ 1 1 (omega arith) (omega arith) (omega arith) (omega arith)
 
 pub loop-i-preserved : goal.loop-i-preserved
 loop-i-preserved c =
-    fill_more (planes _ _) c.loop-i.invariant c.loop-i-test.true c.fill_row-e.ensures.0 c.fill_row-e.ensures.1
-
-pub shape_of-cells : goal.shape_of-cells
-shape_of-cells c = ap (λ (k : Lengths). k.cells) (fill-lengths (planes _ _) c.loop-i.invariant)
-
-pub shape_of-hashes : goal.shape_of-hashes
-shape_of-hashes c = ap (λ (k : Lengths). k.hashes) (fill-lengths (planes _ _) c.loop-i.invariant)
-
-pub shape_of-versions : goal.shape_of-versions
-shape_of-versions c = ap (λ (k : Lengths). k.versions) (fill-lengths (planes _ _) c.loop-i.invariant)
-
-pub shape_of-log : goal.shape_of-log
-shape_of-log c = ap (λ (k : Lengths). k.log) (fill-lengths (planes _ _) c.loop-i.invariant)
-
-pub shape_of-last : goal.shape_of-last
-shape_of-last c = ap (λ (k : Lengths). k.last) (fill-lengths (planes _ _) c.loop-i.invariant)
-
-pub returns : goal.returns
-returns c = fill-all (planes _ _) c.loop-i.invariant c.loop-i-test.false
+    let e = c.fill_row-count.ensures in
+    fill_more (planes _ _) c.loop-i.invariant e.put e.most e.kept

@@ -1,55 +1,18 @@
-use Rattle.std.proofs.Common.{sym, refl, ap, ◌∙◌, arith}
-use Rattle.stand.specs.Storage.{Lengths}
+use Rattle.std.proofs.Common.{sym, refl, ◌∙◌, arith}
 use Rattle.stand.proofs.Parts.{rows}
-use Rattle.stand.proofs.Fill.{each-one, fill-all, fill-count, fill-lengths, fill_more, fill-next, fill_none, sizes_few}
-use Rattle.stand.proofs.Shape.{formed-opens}
+use Rattle.stand.proofs.Fill.{each-one, fill_more, fill_next, fill_none, step_x}
 use Rattle.stand.proofs.volume.fill.fill_row.Goals as goal
 
 pub loop-i-init : goal.loop-i-init
 loop-i-init c = fill_none (rows _) _ _ _
 
-pub overflow_add-d : goal.overflow_add-d
-overflow_add-d c =
-    let f = c.requires in
-    omega (arith, f.x, (sizes_few _ (formed-opens _ f.formed)).x, c.loop-i-test.true)
-
-pub put_spot-e-requires : goal.put_spot-e-requires
-put_spot-e-requires c =
-    let f = c.requires in
-    let t = c.loop-i-test.true in
-    fill-next (rows _) c.loop-i.invariant t f (omega arith) _ 1 1 1 refl (omega arith) (omega arith) (omega arith)
-
-pub overflow_add-count : goal.overflow_add-count
-overflow_add-count c =
-    record { fits = fill-count (rows _) c.loop-i.invariant c.loop-i-test.true c.requires (omega arith) c.put_spot-e.ensures.1 }
-
-pub overflow_add-i : goal.overflow_add-i
-overflow_add-i c =
-    omega (arith, c.loop-i-test.true, c.ranges.n)
-
-pub loop-i-smaller : goal.loop-i-smaller
-loop-i-smaller c = omega (arith, c.loop-i-test.true)
+pub put_spot-count-requires : goal.put_spot-count-requires
+put_spot-count-requires c =
+    fill_next (rows _) c.loop-i.invariant c.loop-i-test.true c.requires (omega arith) _ 1 1 1 refl (omega arith) (omega arith) (omega arith)
 
 pub loop-i-preserved : goal.loop-i-preserved
 loop-i-preserved c =
-    fill_more (rows _) c.loop-i.invariant c.loop-i-test.true (c.put_spot-e.ensures.0 ∙ sym (each-one _ _ _)) c.put_spot-e.ensures.1
+    fill_more (rows _) c.loop-i.invariant (c.put_spot-count.ensures.put ∙ sym (each-one _ _ _)) c.put_spot-count.ensures.one c.put_spot-count.ensures.kept
 
-pub shape_of-cells : goal.shape_of-cells
-shape_of-cells c = ap (λ (k : Lengths). k.cells) (fill-lengths (rows _) c.loop-i.invariant)
-
-pub shape_of-hashes : goal.shape_of-hashes
-shape_of-hashes c = ap (λ (k : Lengths). k.hashes) (fill-lengths (rows _) c.loop-i.invariant)
-
-pub shape_of-versions : goal.shape_of-versions
-shape_of-versions c = ap (λ (k : Lengths). k.versions) (fill-lengths (rows _) c.loop-i.invariant)
-
-pub shape_of-log : goal.shape_of-log
-shape_of-log c = ap (λ (k : Lengths). k.log) (fill-lengths (rows _) c.loop-i.invariant)
-
-pub shape_of-last : goal.shape_of-last
-shape_of-last c = ap (λ (k : Lengths). k.last) (fill-lengths (rows _) c.loop-i.invariant)
-
-pub returns : goal.returns
-returns c =
-    let r = fill-all (rows _) c.loop-i.invariant c.loop-i-test.false in
-    (r.0, omega (arith, r.1))
+pub overflow_add-d : goal.overflow_add-d
+overflow_add-d c = step_x c.requires c.loop-i-test.true

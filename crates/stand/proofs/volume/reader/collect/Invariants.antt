@@ -2,14 +2,14 @@ use Rattle.std.proofs.Common.{◌≡◌, ◌-◌}
 use Rattle.stand.proofs.Walking.{UnderWay}
 use Rattle.stand.proofs.volume.reader.collect.Given as goal
 
-abbrev pub invariant-loop-at : goal.invariant-loop-at
-invariant-loop-at l =
+abbrev pub invariant-loop-given : goal.invariant-loop-given
+invariant-loop-given l =
     record {
-      same_log : l.reader.log.now ≡ l.log;
-      same_last : l.reader.last.now ≡ l.last;
-      under_way : UnderWay l.volume l.log l.last l.mark l.initial.out l.reader.next l.at l.out;
+      same_log : l.reader.log.now ≡ l.changes.log.now;
+      same_last : l.reader.last.now ≡ l.changes.last.now;
+      under_way : UnderWay l.volume l.changes.log.now l.changes.last.now l.mark l.initial.out l.reader.next l.at l.out;
     }
 
 -- fewer generations are left
-abbrev pub decreases-loop-at : goal.decreases-loop-at
-decreases-loop-at l = l.volume.generation - l.reader.next
+abbrev pub decreases-loop-given : goal.decreases-loop-given
+decreases-loop-given l = l.volume.generation - l.reader.next
