@@ -24,6 +24,13 @@ impl<'a> Records<'a> {
         requires { from ≤ self.count }
         ensures { (result ≡ run_from self.entry.form.now i from 0 (self.entry.count - from)) × (result.next ≤ self.entry.count) }
     {
+        // Told apart, so that a section with no record costs six instructions and not seven.
+        if self.count <= from {
+            return Run {
+                next: from,
+                hash: 0,
+            };
+        }
         let mut hash = 0;
         for k in from..self.count {
             let record = self.get(k);
