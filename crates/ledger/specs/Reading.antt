@@ -1,8 +1,9 @@
 -- The calls that are given some of the four and write none: document 01, 'The book behind the sums', and document 02, 2.2.
 -- Each is a name here; its arguments, mask and panel list are any, and what it answers is its contract's. The reader
 -- `ChangedChunks` and the walk `Solids` step as step_from and solid_from; `walk_changed` is walk_from, its list apart from the
--- four. Storing is given header and cells, and the bytes that it writes are apart from the four too. One that is given none of
--- the four, as `stored_header`, needs no name.
+-- four. Storing is given header and cells, and the bytes that it writes are apart from the four too. A `Formed` and a `View` are a
+-- header, and one with its cells; `Storage::check` is storage_check. One that is given none of the four, as `stored_header`, needs
+-- no name.
 pub data Reading : Type 0 where
   origin : Reading
   chunks : Reading
@@ -32,5 +33,10 @@ pub data Reading : Type 0 where
   cells_code : Reading
   storage_code : Reading
   fold_shape : Reading
+  formed : Reading
+  view : Reading
+  storage_check : Reading
+  chunk_total : Reading
+  corner_of : Reading
   store : Reading
   stored_length : Reading

@@ -3,6 +3,7 @@ pub mod Agree
 pub mod Boxes
 pub mod Called
 pub mod Claims
+pub mod Ends
 pub mod Facing
 pub mod Frame
 pub mod Gathered

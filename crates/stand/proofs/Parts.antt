@@ -21,7 +21,7 @@ pub record Parts (all part : Shape → ℕ → List Cell) (w : ℕ) : Type 0 whe
   pub each : (g : Shape) (i : ℕ) → length (part g i) ≡ w
 
 module _ {all part : Shape → ℕ → List Cell} {w : ℕ} (r : Parts all part w) (g : Shape) where
-  parts_length : (n : ℕ) → length (all g n) ≡ w * n
+  pub parts_length : (n : ℕ) → length (all g n) ≡ w * n
   parts_length zero = ap length (r.none g) ∙ sym (mul-zero w)
   parts_length (suc n) =
       ap length (r.more g n) ∙ length-append (all g n) (part g n)

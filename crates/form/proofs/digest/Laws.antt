@@ -121,7 +121,7 @@ pub record Streams (f : List ℕ) (n : ℕ) (g : Shape) (start i k acc : ℕ) : 
   pub asc : Asc (i * 4096) (entries_at f (record_at k) (n - k))
   pub hashes : (j : ℕ) → i ≤ j → j < sections g → hashed (entries_at f (record_at k) (n - k)) j 0 ≡ get_or (hashes_of g f n) j 0
 
-hashes-count : (g : Shape) (f : List ℕ) (n : ℕ) → length (hashes_of g f n) ≡ sections g
+pub hashes-count : (g : Shape) (f : List ℕ) (n : ℕ) → length (hashes_of g f n) ≡ sections g
 hashes-count g f n = mixed-length (entries_at f 25 n) (replicate (sections g) 0) ∙ length-replicate {A = ℕ} (sections g) 0
 
 pub streams_none : (f : List ℕ) (n : ℕ) (g : Shape) {start : ℕ} → Ordered g (entries_at f 25 n) → Streams f n g start 0 0 start

@@ -69,7 +69,7 @@ module _ (v : Volume) (cells out₀ : List ℕ) {a b : List ℕ} {at : ℕ} (roo
   records_fit = omega (arith, front_kept, count_is v cells w, length_is v cells w, w.place, entries_length (entries_of (shape_of v) cells))
 
   module _ (ok : well_formed v ≡ true) (small : Finishes cells) where
-    records_back : entries_at b 25 ((at - 25) / 7) ≡ entries_of (shape_of v) cells
+    pub records_back : entries_at b 25 ((at - 25) / 7) ≡ entries_of (shape_of v) cells
     records_back =
         (λ i. entries_at (front-list i) (sym (head_length (shape_of v)) i) (count_is v cells w i))
         ∙ entries_back (entries_of (shape_of v) cells) (head_bytes (shape_of v)) (drop at out₀) (small_of (shape_of v) cells (formed-opens v ok) small)
